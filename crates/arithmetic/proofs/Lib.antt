@@ -1,0 +1,4 @@
+pub mod Integers
+pub mod WrapLaws
+pub mod Operands
+pub mod QuotientLaws
