@@ -13,8 +13,8 @@ use lib.Dec.{ltb}
 use lib.ListN.{length, drop, getD, drop-of-length-le}
 use lib.Seq.{drop-cons}
 use lib.Pow.{split}
-use Rattle.block_check.specs.Crc.{bit, bits, byte, from, crc}
-use Rattle.base.specs.Lists.{values, table}
+use Rattle.block_check.specs.Crc.{bit, bits, byte, entries, from, crc}
+use Rattle.base.specs.Lists.{values}
 use Rattle.base.proofs.Lists.{table-at, table-same}
 use Rattle.block_check.proofs.Xor.{digit, xor-cross, xor-double}
 
@@ -79,10 +79,6 @@ halves c b =
     ∙ xor-block 8 (c / 256) b (c % 256) 0 (omega arith) (omega arith)
     ∙ ap (λ (x : ℕ). bitXor (c / 256) b * 256 + x) (xor-zero-r (c % 256))
     ∙ sym (xor-shifted (bitXor (c / 256) b) 8 (c % 256) (omega arith))
-
--- the table, by its rule: what the division leaves of each byte in the upper half
-abbrev pub entries : List ℕ
-entries = table 256 (λ h. bits 8 (h * 256))
 
 -- eight bits at once
 pub law : (c b : ℕ) → c < 65536 → b < 256

@@ -6,6 +6,7 @@ use mathlib.Core.List.{List, [], _∷_}
 use Prim.Native.Nat.{ℕ, zero, suc, _-_, _*_}
 use lib.Bits.{bitXor}
 use lib.Dec.{ltb}
+use Rattle.base.specs.Lists.{table}
 
 -- one bit: shift left; if the bit that leaves the 16 is a 1, exclusive-or with the polynomial
 abbrev pub bit : ℕ → ℕ
@@ -18,6 +19,10 @@ bits (suc n) c = bits n (bit c)
 -- one byte, its highest bit first: it goes into the upper half, and eight bits leave
 abbrev pub byte : ℕ → ℕ → ℕ
 byte c b = bits 8 (bitXor c (b * 256))
+
+-- the table of the check, by its rule: what the division leaves of each byte in the upper half
+abbrev pub entries : List ℕ
+entries = table 256 (λ h. bits 8 (h * 256))
 
 abbrev pub from : ℕ → List ℕ → ℕ
 from c [] = c

@@ -1,6 +1,6 @@
 // The check of a lane file's block: CRC-16, polynomial 0x1021, start 0xFFFF, no reflection, no final exclusive-or.
 ghost use mathlib.Core.Path.{_≡_};
-ghost use Rattle.block_check.specs.Crc.{byte, crc};
+ghost use Rattle.block_check.specs.Crc.{byte, entries, crc};
 
 // What the division leaves of each byte in the upper half.
 const TABLE: [u16; 256] = [
@@ -262,22 +262,24 @@ const TABLE: [u16; 256] = [
     7920,
 ];
 
-// The remainder after one more byte: one look-up.
-fn step(crc: u16, b: u8) -> u16
+// The remainder after one more byte: one look-up. The table is lent: where a constant is indexed, all of it is copied first.
+fn step(table: &[u16; 256], crc: u16, b: u8) -> u16
+    requires { ⌜ now table ≡ entries ⌝ }
     ensures { λ r. ⌜ r ≡ byte crc b ⌝ }
 {
     let at = (crc >> 8) ^ (b as u16);
-    (crc << 8) ^ TABLE[at as usize]
+    (crc << 8) ^ table[at as usize]
 }
 
 // The check of a slice of any length.
 pub fn check(bytes: &[u8]) -> u16
     ensures { λ r. ⌜ r ≡ crc (now (bytes .entry)) ⌝ }
 {
+    let table = TABLE;
     let mut crc: u16 = 0xFFFF;
     let mut i: usize = 0;
     while i < bytes.len() {
-        crc = step(crc, bytes[i]);
+        crc = step(&table, crc, bytes[i]);
         i += 1;
     }
     crc

@@ -1,0 +1,79 @@
+-- Laws of the reader's answers: what each test that passed says, and the result of an answer.
+-- Assumes nothing.
+use mathlib.Core.Path.{_≡_}
+use mathlib.Core.Bool.{true}
+use mathlib.Core.List.{List}
+use Prim.Native.Nat.{ℕ, _-_, _/_, _%_, _≤_}
+use borrow.Author.Tests.{eqb-true}
+use native.Mathlib.Omega.{arith}
+use lib.Dec.{eqb}
+use lib.ListN.{length, getD}
+use Rattle.base.specs.declared.Refusal.{Refusal}
+use Rattle.base.specs.declared.Verdict.the-variants.{Good}
+use Rattle.base.specs.Refusals.{numberOf}
+use Rattle.base.specs.Tests.{need, between}
+use Rattle.base.proofs.Tests.{both, need-true}
+use Rattle.network.specs.declared.Network.{Network}
+use Rattle.network.specs.Rules.{processesRight, channelsRight, slots, total, blocksFor, records, instructions}
+use Rattle.network.proofs.Conjunction.{both-true, between-true}
+use Rattle.lane_file.specs.declared.Answer.the-variants.{Accepted, Refused}
+use Rattle.lane_file.specs.declared.Reading.{Reading}
+use Rattle.lane_file.specs.Read.{blocks, networkOf, lengthRight, checks, header, slotsIn, restIn, accepted, refused, unless, answerIn, noNetwork, readOf, resultOf}
+
+-- ---- 1
+pub record Sized (n : ℕ) : Type 0 where
+  pub whole : n % 512 ≡ 0
+  pub low : 1024 ≤ n
+  pub high : n ≤ 4608
+
+pub sized : (n : ℕ) → lengthRight n ≡ true → Sized n
+sized n e =
+    let b = both-true (eqb (n % 512) 0) (between 2 (n / 512) 9) e in
+    let d = between-true 2 (n / 512) 9 (b .1) in
+    let z = eqb-true (n % 512) 0 (b .0) in
+    record { whole = z; low = omega arith; high = omega arith }
+
+-- ---- 3
+pub record Headed (s : List ℕ) : Type 0 where
+  pub processes : getD s 3 0 ≤ 16
+  pub channels : getD s 4 0 ≤ 32
+  pub code : getD s 5 0 ≡ blocks s - 1
+
+pub headed : (s : List ℕ) → header s ≡ Good → Headed s
+unfolding header
+headed s e =
+    let a = both (need (eqb (getD s 0 0) 0x4C) 0) _ e in
+    let b = both (need (eqb (getD s 1 0) 0x4E) 1) _ (a .1) in
+    let c = both (need (eqb (getD s 2 0) 1) 2) _ (b .1) in
+    let d = both (need (processesRight (getD s 3 0)) 3) _ (c .1) in
+    let f = both (need (channelsRight (getD s 4 0)) 4) _ (d .1) in
+    record {
+      processes = between-true 1 (getD s 3 0) 16 (need-true _ 3 (d .0)) .1;
+      channels = between-true 1 (getD s 4 0) 32 (need-true _ 4 (f .0)) .1;
+      code = eqb-true (getD s 5 0) (blocks s - 1) (need-true _ 5 (f .1));
+    }
+
+-- ---- 4
+pub record Slotted (n : Network) : Type 0 where
+  pub good : slots n ≡ Good
+  pub few : total n ≤ 1016
+
+pub slotted : (s : List ℕ) (n : Network) → getD s 5 0 ≤ 8 → slotsIn s n ≡ Good → Slotted n
+slotted s n h e =
+    let b = both (slots n) (need (eqb (getD s 5 0) (blocksFor (total n))) 16) e in
+    let k = eqb-true (getD s 5 0) (blocksFor (total n)) (need-true _ 16 (b .1)) in
+    record { good = b .0; few = omega arith }
+
+-- ---- the tests 1 to 3 passed: 4 to 7 answer
+pub first-passed : (s : List ℕ) (n : Network) → lengthRight (length s) ≡ true → checks s ≡ Good → header s ≡ Good → answerIn s n ≡ unless 4 (slotsIn s n) (unless 5 (records n) (unless 6 (restIn s n) (unless 7 (instructions n) accepted)))
+unfolding answerIn
+first-passed s n l c h = rw (l, c, h)
+
+-- ---- the result of an answer
+pub result-refused : (x : Reading) (r : Refusal) (place : ℕ) (s : List ℕ) → (x .answer ≡ Refused r place) × (x .network ≡ noNetwork) → answerIn s (networkOf s) ≡ refused (numberOf r) place → resultOf x ≡ readOf s
+unfolding readOf
+result-refused x r place s e a = rw (e .0, e .1, a)
+
+pub result-accepted : (x : Reading) (s : List ℕ) → x .answer ≡ Accepted → x .network ≡ networkOf s → answerIn s (networkOf s) ≡ accepted → resultOf x ≡ readOf s
+unfolding readOf
+result-accepted x s e f a = rw (e, f, a)

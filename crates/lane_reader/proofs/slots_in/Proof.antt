@@ -1,0 +1,66 @@
+-- `lane_reader::slots_in` meets its contract: each return rewrites by the tests that led there.
+-- Assumes nothing.
+use Prim.Native.Nat.{_+_, _/_}
+use native.Mathlib.Omega.{arith}
+use borrow.Author.Needs.{needs}
+use borrow.Author.Tests.{eq-eqb, ne-eqb}
+use lib.ListN.{getD}
+use Rattle.lane_reader.proofs.slots_in.Statement.{statement}
+use Rattle.lane_reader.proofs.slots_in.Tie as tie
+
+slots-requires : tie.Need-slots-requires
+slots-requires c κs = search needs
+
+enum-told : tie.Need-enum-told
+enum-told c = search needs
+
+enum-told-2 : tie.Need-enum-told-2
+enum-told-2 c = search needs
+
+returns : tie.Need-returns
+returns c = simp (← c .before .before .slots .ensures, c .enum-told2 .given .1)
+
+total-requires : tie.Need-total-requires
+total-requires c κs = search needs
+
+returns-2 : tie.Need-returns-2
+returns-2 c =
+    let t = c .before in
+    let s = t .before .before .before .before .before .args .s .now in
+    let r = t .total in
+    simp (← t .before .before .before .slots .ensures, t .before .enum-told .given .1, ← r .ensures, ne-eqb (getD s 5 0) ((r .result + 126) / 127) (λ e. omega arith))
+
+shared-slice-read-k : tie.Need-shared-slice-read-k
+shared-slice-read-k c = search needs
+
+cast-k : tie.Need-cast-k
+cast-k c = search needs
+
+add-if2 : tie.Need-add-if2
+add-if2 c = search needs
+
+returns-3 : tie.Need-returns-3
+returns-3 c =
+    let t = c .before .before .before in
+    simp (← t .before .before .before .slots .ensures, t .before .enum-told .given .1, ← t .total .ensures, ne-eqb _ _ (c .if2 .taken))
+
+returns-4 : tie.Need-returns-4
+returns-4 c =
+    let t = c .before .before .before in
+    simp (← t .before .before .before .slots .ensures, t .before .enum-told .given .1, ← t .total .ensures, eq-eqb _ _ (c .if2 .left))
+
+pub slots-in-spec : {M : Type 1} → statement M
+slots-in-spec =
+    tie.close
+    (tie.spec
+    slots-requires
+    enum-told
+    enum-told-2
+    returns
+    total-requires
+    returns-2
+    shared-slice-read-k
+    cast-k
+    add-if2
+    returns-3
+    returns-4)

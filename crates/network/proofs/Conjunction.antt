@@ -1,0 +1,31 @@
+-- Tests that pass: both where their conjunction does; a number between two bounds; a verdict.
+-- Assumes nothing.
+use mathlib.Core.Path.{_≡_, refl, sym, ap, _∙_}
+use mathlib.Core.Bool.{Bool, true, false, _&&_, false≢true}
+use Prim.Native.Nat.{ℕ, _≤_}
+use borrow.Author.Tests.{leb-true, le-leb}
+use Rattle.base.specs.declared.Verdict.{Verdict}
+use Rattle.base.specs.declared.Verdict.the-variants.{Good, Bad}
+use Rattle.base.specs.Tests.{isGood, between}
+
+pub both-true : (a b : Bool) → (a && b) ≡ true → (a ≡ true) × (b ≡ true)
+both-true true b e = (refl, e)
+both-true false b e = absurd (false≢true e)
+
+pub true-both : (a b : Bool) → a ≡ true → b ≡ true → (a && b) ≡ true
+true-both a b p q = rw (p, q)
+
+pub good-is : (v : Verdict) → isGood v ≡ true → v ≡ Good
+good-is Good e = refl
+good-is (Bad k) e = absurd (false≢true e)
+
+pub bad-not-good : (v : Verdict) (k : ℕ) → v ≡ Bad k → v ≡ Good → ⊥
+bad-not-good v k p q = false≢true (sym (ap isGood p) ∙ ap isGood q)
+
+pub between-true : (low x high : ℕ) → between low x high ≡ true → (low ≤ x) × (x ≤ high)
+between-true low x high e =
+    let b = both-true _ _ e in
+    (leb-true low x (b .0), leb-true x high (b .1))
+
+pub true-between : (low x high : ℕ) → low ≤ x → x ≤ high → between low x high ≡ true
+true-between low x high p q = true-both _ _ (le-leb low x p) (le-leb x high q)

@@ -1,0 +1,3 @@
+pub mod Conjunction
+pub mod Slot
+pub mod Passed

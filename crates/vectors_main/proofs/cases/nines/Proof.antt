@@ -1,0 +1,49 @@
+use borrow.Author.Needs.{needs}
+use Prim.Native.Nat.{_≤_, _-_}
+use Rattle.vectors_main.proofs.cases.nines.Statement.{statement}
+use Rattle.vectors_main.proofs.cases.nines.Tie as tie
+
+abbrev Inv-loop : tie.InvT-loop
+Inv-loop a k₀ k = k ≤ 5120
+
+abbrev μ-loop : tie.MeasureT-loop
+μ-loop a k₀ k = 5120 - k
+
+loop-holds : tie.Need-loop-holds Inv-loop μ-loop
+loop-holds c = search needs
+
+sub-if1 : tie.Need-sub-if1 Inv-loop μ-loop
+sub-if1 c = search needs
+
+array-read-if1 : tie.Need-array-read-if1 Inv-loop μ-loop
+array-read-if1 c = search needs
+
+returns : tie.Need-returns Inv-loop μ-loop
+returns c = search needs
+
+add-k : tie.Need-add-k Inv-loop μ-loop
+add-k c = search needs
+
+loop-less : tie.Need-loop-less Inv-loop μ-loop
+loop-less c = search needs
+
+loop-again : tie.Need-loop-again Inv-loop μ-loop
+loop-again c = search needs
+
+returns-2 : tie.Need-returns-2 Inv-loop μ-loop
+returns-2 c = search needs
+
+pub nines-spec : {M : Type 1} → statement M
+nines-spec =
+    tie.close
+    (tie.spec
+    Inv-loop
+    μ-loop
+    loop-holds
+    sub-if1
+    array-read-if1
+    returns
+    add-k
+    loop-less
+    loop-again
+    returns-2)
