@@ -1,0 +1,5 @@
+pub mod Window
+pub mod State
+pub mod Sound
+pub mod Pick
+pub mod Calls

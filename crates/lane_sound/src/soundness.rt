@@ -1,0 +1,180 @@
+// When a lane is sound: the tests of its parts, public for `sound` alone, which tests the network first: at most 16 processes, at most 32 channels.
+use base::Verdict;
+use lane::Lane;
+use lane::Standing;
+use process::Channel;
+use process::Condition;
+ghost use mathlib.Core.Path.{_≡_};
+ghost use mathlib.Core.Bool.{_&&_};
+ghost use Prim.Native.Nat.{_-_, _*_, _≤_};
+ghost use lib.Dec.{ltb};
+ghost use lib.IntN.{pos};
+ghost use lib.ListN.{getD};
+ghost use Rattle.base.specs.Tests.{firstBad};
+ghost use Rattle.process.specs.Want.{isNull};
+ghost use Rattle.lane.specs.State.{standingOf, isEnded, channelOf};
+ghost use Rattle.lane.specs.Sound.{positionSound, channelSound, channelSoundAt, standingZero, channelZero};
+
+// A process in this condition has ended.
+fn is_ended(k: Condition) -> bool
+    ensures { λ r. ⌜ r ≡ isEnded k ⌝ }
+{
+    match k {
+        Condition::Live => false,
+        Condition::Stopped => true,
+        Condition::Faulted => true,
+    }
+}
+
+// The end e of a channel is the process s, and that has ended; the outside never has. Public for the crates above, which read s at e modulo 16.
+pub fn ended_if(e: usize, s: Standing) -> bool
+    ensures { λ r. ⌜ r ≡ (ltb e 16 && isEnded (s .condition)) ⌝ }
+{
+    let k = s.condition;
+    if e < 16 {
+        return is_ended(k);
+    }
+    false
+}
+
+// A channel is sound; `sender` and `receiver` say whether its ends have ended.
+fn channel_sound(sender: bool, receiver: bool, h: Channel) -> bool
+    ensures { λ r. ⌜ r ≡ channelSound sender receiver h ⌝ }
+{
+    if h.capacity < h.held {
+        return false;
+    }
+    if h.capacity < 1 {
+        return false;
+    }
+    if 256 < h.capacity {
+        return false;
+    }
+    if 255 < h.oldest {
+        return false;
+    }
+    if sender {
+        if !h.closed {
+            return false;
+        }
+    }
+    if receiver {
+        if h.held != 0 {
+            return false;
+        }
+    }
+    true
+}
+
+// A process as at the start: at its first instruction, live, no move made.
+fn standing_zero(s: Standing) -> bool
+    ensures { λ r. ⌜ r ≡ standingZero s ⌝ }
+{
+    if s.position != 0 {
+        return false;
+    }
+    let k = s.condition;
+    if is_ended(k) {
+        return false;
+    }
+    s.moves == 0
+}
+
+// A channel of which all is zero, and open.
+fn channel_zero(h: Channel) -> bool
+    ensures { λ r. ⌜ r ≡ channelZero h ⌝ }
+{
+    if h.capacity != 0 {
+        return false;
+    }
+    if h.oldest != 0 {
+        return false;
+    }
+    if h.held != 0 {
+        return false;
+    }
+    !h.closed
+}
+
+// The first process whose position is not below its count.
+pub fn positions(lane: Lane) -> Verdict
+    requires { ⌜ lane .network .processes ≤ 16 ⌝ }
+    ensures { λ r. ⌜ r ≡ firstBad (positionSound lane) 0 (lane .network .processes) ⌝ }
+{
+    let net = lane.network;
+    let mut p = 0;
+    while p < net.processes {
+        let s = lane.processes[p];
+        if net.count[p] <= s.position {
+            return Verdict::Bad(p);
+        }
+        p += 1;
+    }
+    Verdict::Good
+}
+
+// The first channel in use that is not sound.
+pub fn channels(lane: Lane) -> Verdict
+    requires { ⌜ lane .network .channels ≤ 32 ⌝ }
+    ensures { λ r. ⌜ r ≡ firstBad (channelSoundAt lane) 0 (lane .network .channels) ⌝ }
+{
+    let net = lane.network;
+    let mut c = 0;
+    while c < net.channels {
+        let sender = net.sender[c] as usize;
+        let receiver = net.receiver[c] as usize;
+        let s = lane.processes[sender % 16];
+        let r = lane.processes[receiver % 16];
+        let h = lane.channels[c];
+        if !channel_sound(ended_if(sender, s), ended_if(receiver, r), h) {
+            return Verdict::Bad(c);
+        }
+        c += 1;
+    }
+    Verdict::Good
+}
+
+// The first process not in use that is not zero.
+pub fn unused_standings(lane: Lane) -> Verdict
+    ensures { λ r. ⌜ r ≡ firstBad (λ p. standingZero (standingOf lane p)) (lane .network .processes) (16 - lane .network .processes) ⌝ }
+{
+    let mut p = lane.network.processes;
+    while p < 16 {
+        let s = lane.processes[p];
+        if !standing_zero(s) {
+            return Verdict::Bad(p);
+        }
+        p += 1;
+    }
+    Verdict::Good
+}
+
+// The first register of a process not in use that is not zero.
+pub fn unused_registers(lane: Lane) -> Verdict
+    requires { ⌜ lane .network .processes ≤ 16 ⌝ }
+    ensures { λ r. ⌜ r ≡ firstBad (λ r. isNull (getD (lane .registers) r (pos 0))) (8 * lane .network .processes) (128 - 8 * lane .network .processes) ⌝ }
+{
+    let mut r = 8 * lane.network.processes;
+    while r < 128 {
+        if lane.registers[r] != 0 {
+            return Verdict::Bad(r);
+        }
+        r += 1;
+    }
+    Verdict::Good
+}
+
+// The first channel not in use that is not zero.
+pub fn unused_channels(lane: Lane) -> Verdict
+    ensures { λ r. ⌜ r ≡ firstBad (λ c. channelZero (channelOf lane c)) (lane .network .channels) (32 - lane .network .channels) ⌝ }
+{
+    let mut c = lane.network.channels;
+    while c < 32 {
+        let h = lane.channels[c];
+        if !channel_zero(h) {
+            return Verdict::Bad(c);
+        }
+        c += 1;
+    }
+    Verdict::Good
+}

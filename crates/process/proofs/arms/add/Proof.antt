@@ -1,0 +1,34 @@
+-- `process::arms::add` meets its contract.
+-- Assumes nothing.
+use mir.Facts.{toZ-ofZ}
+use mir.Syntax.{w32}
+use mir.Val.{SFits}
+use borrow.Author.Needs.{needs}
+use Rattle.arithmetic.specs.Wrap.{sumOf}
+use Rattle.process.proofs.Numbers.{operands}
+use Rattle.process.proofs.arms.add.Statement.{statement}
+use Rattle.process.proofs.arms.add.Tie as tie
+
+register-requires : tie.Need-register-requires
+register-requires c κs = search needs
+
+register-requires-2 : tie.Need-register-requires-2
+register-requires-2 c κs = search needs
+
+sum-requires : tie.Need-sum-requires
+sum-requires c κs = search needs
+
+assign-requires : tie.Need-assign-requires
+assign-requires c κs = search needs
+
+returns : tie.Need-returns
+returns c =
+    let x = c .before .before .before .register in
+    let y = c .before .before .register2 in
+    let z = c .before .sum in
+    let h : SFits w32 (z .result) = record { sfits = z .ok } in
+    rw (c .assign .ensures, toZ-ofZ h, z .ensures, operands sumOf (record { sfits = x .ok }) (record { sfits = y .ok }) (x .ensures) (y .ensures))
+
+pub add-spec : {M : Type 1} → statement M
+add-spec =
+    tie.close (tie.spec register-requires register-requires-2 sum-requires assign-requires returns)

@@ -1,0 +1,36 @@
+-- `process::arms::remainder` meets its contract.
+-- Assumes nothing.
+use borrow.Author.Needs.{needs}
+use Rattle.arithmetic.specs.Quotient.{remainderOf}
+use Rattle.process.proofs.Numbers.{operands}
+use Rattle.process.proofs.arms.remainder.Statement.{statement}
+use Rattle.process.proofs.arms.remainder.Tie as tie
+
+register-requires : tie.Need-register-requires
+register-requires c κs = search needs
+
+register-requires-2 : tie.Need-register-requires-2
+register-requires-2 c κs = search needs
+
+remainder-requires : tie.Need-remainder-requires
+remainder-requires c κs = search needs
+
+put-divided-requires : tie.Need-put-divided-requires
+put-divided-requires c κs = search needs
+
+returns : tie.Need-returns
+returns c =
+    λ m g.
+    let x = c .before .before .before .register in
+    let y = c .before .before .register2 in
+    rw (c .put-divided .ensures m g, c .before .remainder .ensures, operands remainderOf (record { sfits = x .ok }) (record { sfits = y .ok }) (x .ensures) (y .ensures))
+
+pub remainder-spec : {M : Type 1} → statement M
+remainder-spec =
+    tie.close
+    (tie.spec
+    register-requires
+    register-requires-2
+    remainder-requires
+    put-divided-requires
+    returns)

@@ -1,0 +1,35 @@
+-- `process::arms::subtract` meets its contract.
+-- Assumes nothing.
+use mir.Facts.{toZ-ofZ}
+use mir.Syntax.{w32}
+use mir.Val.{SFits}
+use borrow.Author.Needs.{needs}
+use Rattle.arithmetic.specs.Wrap.{differenceOf}
+use Rattle.process.proofs.Numbers.{operands}
+use Rattle.process.proofs.arms.subtract.Statement.{statement}
+use Rattle.process.proofs.arms.subtract.Tie as tie
+
+register-requires : tie.Need-register-requires
+register-requires c κs = search needs
+
+register-requires-2 : tie.Need-register-requires-2
+register-requires-2 c κs = search needs
+
+difference-requires : tie.Need-difference-requires
+difference-requires c κs = search needs
+
+assign-requires : tie.Need-assign-requires
+assign-requires c κs = search needs
+
+returns : tie.Need-returns
+returns c =
+    let x = c .before .before .before .register in
+    let y = c .before .before .register2 in
+    let z = c .before .difference in
+    let h : SFits w32 (z .result) = record { sfits = z .ok } in
+    rw (c .assign .ensures, toZ-ofZ h, z .ensures, operands differenceOf (record { sfits = x .ok }) (record { sfits = y .ok }) (x .ensures) (y .ensures))
+
+pub subtract-spec : {M : Type 1} → statement M
+subtract-spec =
+    tie.close
+    (tie.spec register-requires register-requires-2 difference-requires assign-requires returns)

@@ -1,0 +1,4 @@
+pub mod Channels
+pub mod Intent
+pub mod Want
+pub mod Execute

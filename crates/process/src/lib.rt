@@ -1,0 +1,115 @@
+// A process and a channel of a lane, and the execution of one instruction on these small values.
+mod arms;
+
+use network::Instruction;
+ghost use mathlib.Core.Path.{_≡_};
+ghost use mathlib.Core.Bool.{Bool, true, false};
+ghost use Prim.Native.Nat.{_+_, _≤_, _<_};
+ghost use Rattle.process.specs.Channels.{putOne, getOne, closeOne, emptyOne, enlargeOne};
+ghost use Rattle.process.specs.Want.{counted};
+ghost use Rattle.process.specs.Execute.{stepOf, Steppable};
+
+pub enum Condition {
+    Live,
+    Stopped,
+    Faulted,
+}
+
+// A process: its registers, its position among its own instructions, its condition and how often it moved.
+pub struct Process {
+    pub registers: [i32; 8],
+    pub position: u16,
+    pub condition: Condition,
+    pub moves: u64,
+}
+
+// A channel: its capacity, the place of the oldest message (0 to 255), the number held, closed or open.
+pub struct Channel {
+    pub capacity: u16,
+    pub oldest: u16,
+    pub held: u16,
+    pub closed: bool,
+}
+
+// What an instruction did: the process moved; moved and a message is to be stored; moved and ended; waits at its
+// channel, which is empty or full; had ended before.
+pub enum Outcome {
+    Moved,
+    Sent(i32),
+    Halted,
+    WaitEmpty,
+    WaitFull,
+    Ended,
+}
+
+pub struct Stepped {
+    pub process: Process,
+    pub channel: Channel,
+    pub outcome: Outcome,
+}
+
+impl Channel {
+    // One message more. Public for the crates above, which know that there is room.
+    pub fn put(mut self) -> Channel
+        requires { ⌜ self .held < self .capacity ⌝ }
+        ensures { λ r. ⌜ r ≡ putOne self ⌝ }
+    {
+        self.held = self.held + 1;
+        self
+    }
+
+    // The oldest message is gone. Public for the crates above, which know that one is held.
+    pub fn get(mut self) -> Channel
+        requires { ⌜ (0 < self .held) × (self .oldest < 256) ⌝ }
+        ensures { λ r. ⌜ r ≡ getOne self ⌝ }
+    {
+        self.oldest = (self.oldest + 1) % 256;
+        self.held = self.held - 1;
+        self
+    }
+
+    pub fn close(mut self) -> Channel
+        ensures { λ r. ⌜ r ≡ closeOne self ⌝ }
+    {
+        self.closed = true;
+        self
+    }
+
+    // No message is held; the place stays.
+    pub fn empty(mut self) -> Channel
+        ensures { λ r. ⌜ r ≡ emptyOne self ⌝ }
+    {
+        self.held = 0;
+        self
+    }
+
+    // Room for one message more. Public for the crates above, which know that the capacity is below 256.
+    pub fn enlarge(mut self) -> Channel
+        requires { ⌜ self .capacity < 256 ⌝ }
+        ensures { λ r. ⌜ r ≡ enlargeOne self ⌝ }
+    {
+        self.capacity = self.capacity + 1;
+        self
+    }
+}
+
+// One more, which stays at the largest.
+pub fn counted(n: u64) -> u64
+    ensures { λ r. ⌜ r ≡ counted n ⌝ }
+{
+    if n < 18446744073709551615 { n + 1 } else { n }
+}
+
+// One instruction of a process: the record of its channel b, the oldest message there, and whether that channel's
+// receiver has ended. Public for the crates above, which have shown what it requires.
+pub fn step(i: Instruction, process: Process, channel: Channel, message: i32, gone: bool) -> Stepped
+    requires { ⌜ Steppable i process channel ⌝ }
+    ensures { λ r. ⌜ r ≡ stepOf i process channel message gone ⌝ }
+{
+    let condition = process.condition;
+    match condition {
+        Condition::Live => arms::execute(i, process, channel, message, gone),
+        Condition::Stopped => arms::stay(process, channel, Outcome::Ended),
+        Condition::Faulted => arms::stay(process, channel, Outcome::Ended),
+    }
+}
