@@ -1,3 +1,5 @@
+-- `vectors_main::cases::print_cases` is safe and ends.
+-- Assumes nothing.
 use borrow.Author.Needs.{needs}
 use Prim.Native.Nat.{_≤_, _-_}
 use Rattle.vectors_main.proofs.print_cases.Statement.{statement}

@@ -1,3 +1,5 @@
+-- `vectors_main::print_lengths` is safe and ends.
+-- Assumes nothing.
 use borrow.Author.Needs.{needs}
 use Prim.Native.Nat.{_≤_, _-_}
 use Rattle.vectors_main.proofs.print_lengths.Statement.{statement}

@@ -1,0 +1,220 @@
+-- One pick as the code makes it: the results of its calls, put together, are the pick; and what the loop over the picks keeps.
+-- Assumes nothing.
+use mathlib.Core.Path.{_≡_, refl, sym, _∙_}
+use mathlib.Core.Bool.{Bool, true, false, cond, _&&_}
+use mathlib.Core.List.{List}
+use Prim.Native.Nat.{ℕ, _+_, _*_, _%_, _≤_, _<_}
+use native.Mathlib.Decide.{decLt}
+use native.Mathlib.Numerals.{add-one}
+use native.Mathlib.Omega.{arith}
+use borrow.Author.Tests.{lt-ltb}
+use lib.Dec.{ltb}
+use lib.IntN.{ℤ, pos}
+use lib.ListN.{length, getD, set, drop, drop-of-length-le}
+use lib.Seq.{set-getD, drop-cons}
+use Rattle.network.specs.declared.Network.{Network}
+use Rattle.network.specs.declared.Instruction.{Instruction}
+use Rattle.network.specs.Code.{instructionAt}
+use Rattle.network.specs.Rules.{startOf, countOf, receiverOf, receives, sends}
+use Rattle.network.proofs.Passed.{passed}
+use Rattle.network.proofs.Slot.{right-at, ends-within}
+use Rattle.process.specs.declared.Process.{Process}
+use Rattle.process.specs.declared.Channel.{Channel}
+use Rattle.process.specs.declared.Outcome.{Outcome}
+use Rattle.process.specs.declared.Outcome.the-variants.{Moved, Sent, Halted, WaitEmpty, WaitFull, Ended}
+use Rattle.process.specs.declared.Stepped.{Stepped}
+use Rattle.process.specs.Channels.{slot}
+use Rattle.process.specs.Execute.{stepOf, Steppable}
+use Rattle.lane.specs.declared.Standing.{Standing}
+use Rattle.lane.specs.declared.Lane.{Lane}
+use Rattle.lane.specs.Window.{eight, putEight}
+use Rattle.lane.specs.State.{World, world, cellAt, noStanding, standingOf, joined, split, processOf, isEnded, channelOf, putChannels, standsAt}
+use Rattle.lane.specs.Pick.{channelIn, dropFrom, settle, putBack, stepAt, instructionFor, stepFor, pickIn, hasMoved, Progress, pickNext, pickAll}
+use Rattle.lane_picks.specs.Turn.{wordAfter, isHalted}
+use Rattle.lane.proofs.Shape.{Shaped}
+use Rattle.lane.proofs.SoundLaws.{Sound, ended-at}
+use Rattle.lane.proofs.Instructions.{stands-right}
+use Rattle.lane.proofs.PickLaws.{picked-sound, pick-network, pick-cells, pick-shaped}
+
+abbrev pub progress : Lane → List ℤ → ℕ → Outcome → ℕ → Progress
+progress l cells moved last channel = record { world = world l cells; moved = moved; last = last; channel = channel }
+
+-- ---- the step
+-- the instruction that is fetched is the one at which process p stands
+pub instruction-is :
+    {n : Network} (l : Lane) (p : ℕ) {at : ℕ} {i : Instruction}
+    → n ≡ l .network
+    → standingOf l p .position < countOf n p
+    → at ≡ startOf n p + standingOf l p .position
+    → i ≡ instructionAt (n .code) at
+    → i ≡ instructionFor p l
+unfolding standsAt
+instruction-is {n} l p same h e₁ e₂ = rw (e₂, e₁, ← same, lt-ltb (standingOf l p .position) (countOf n p) h)
+
+-- the step that is taken is that of process p
+pub step-is :
+    {n : Network} (l : Lane) (cells : List ℤ) (p : ℕ) {c e from : ℕ} {i : Instruction} {registers : List ℤ} {q : Process} {gone : Bool} {r : Stepped}
+    → n ≡ l .network
+    → length (l .processes) ≡ 16
+    → i ≡ instructionFor p l
+    → registers ≡ eight (l .registers) (8 * p)
+    → q ≡ joined registers (standingOf l p)
+    → c ≡ channelIn i
+    → e ≡ receiverOf n c
+    → gone ≡ (ltb e 16 && isEnded (getD (l .processes) (e % 16) noStanding .condition))
+    → from ≡ slot c (channelOf l c) 0
+    → r ≡ stepOf i q (channelOf l c) (getD cells from (pos 0)) gone
+    → r ≡ stepFor p (world l cells)
+unfolding stepAt
+step-is l cells p {e = e} same long e₁ e₂ e₃ e₄ e₅ e₆ e₇ e₈ = rw (e₈, e₇, e₆, ended-at (l .processes) long e, e₅, e₄, e₃, e₂, e₁, same)
+
+-- ---- what follows for channels and cells
+settle-is :
+    (o : Outcome) (p to : ℕ) (w : World)
+    → settle o p to w
+    ≡ world (putChannels (cond (isHalted o) (dropFrom (w .lane .network) p 0 (w .lane .channels)) (w .lane .channels)) (w .lane))
+    (set (w .cells) to (wordAfter o (cellAt w to)))
+settle-is Moved p to w = rw (set-getD (w .cells) to (pos 0))
+settle-is (Sent v) p to w = refl
+settle-is Halted p to w = rw (set-getD (w .cells) to (pos 0))
+settle-is WaitEmpty p to w = rw (set-getD (w .cells) to (pos 0))
+settle-is WaitFull p to w = rw (set-getD (w .cells) to (pos 0))
+settle-is Ended p to w = rw (set-getD (w .cells) to (pos 0))
+
+-- one pick more has moved, or none
+moved-is : (b : Bool) (n : ℕ) → n + cond b 1 0 ≡ cond b (n + 1) n
+moved-is true n = refl
+moved-is false n = omega arith
+
+-- the results of the calls of one turn, put together
+pub pick-is :
+    (l : Lane) (cells : List ℤ) (moved : ℕ) (last : Outcome) (channel : ℕ)
+    {p p′ c to gain : ℕ} {v : ℤ} {r : Stepped} {file : List ℤ} {m : Standing} {hs : List Channel}
+    → p ≡ p′
+    → c ≡ channelIn (instructionFor p l)
+    → r ≡ stepFor p (world l cells)
+    → file ≡ putEight (l .registers) (8 * p) (r .process .registers)
+    → m ≡ split (r .process)
+    → to ≡ slot c (channelOf l c) (channelOf l c .held)
+    → v ≡ wordAfter (r .outcome) (getD cells to (pos 0))
+    → gain ≡ cond (hasMoved (r .outcome)) 1 0
+    → hs ≡ cond (isHalted (r .outcome)) (dropFrom (l .network) p 0 (set (l .channels) c (r .channel))) (set (l .channels) c (r .channel))
+    → progress
+    (record { network = l .network; registers = file; processes = set (l .processes) p m; channels = hs; accepted = l .accepted })
+    (set cells to v)
+    (moved + gain)
+    (r .outcome)
+    c
+    ≡ pickNext p′ (progress l cells moved last channel)
+unfolding pickNext pickIn putBack
+pick-is l cells moved last channel {p} {r = r} e₀ e₁ e₂ e₃ e₄ e₅ e₆ e₇ e₈ =
+    rw (e₈, e₇, moved-is (hasMoved (r .outcome)) moved, e₆, e₅, e₄, e₃, e₂, e₁, ← e₀, settle-is)
+
+-- ---- what the loop over the picks keeps
+-- after i picks the lane, cells and counts g₀ have become g; n is the lane's network
+pub record Partway (picks : List ℕ) (g₀ : Progress) (i : ℕ) (n : Network) (g : Progress) : Type 0 where
+  pub within : i ≤ length picks
+  pub there : (k : ℕ) → k < length picks → getD picks k 0 < n .processes
+  pub same : n ≡ g .world .lane .network
+  pub long₀ : length (g₀ .world .cells) ≡ 8192
+  pub long : length (g .world .cells) ≡ 8192
+  pub shaped : Shaped (g .world .lane)
+  pub sound : Sound (g .world .lane)
+  pub few : g .moved ≤ i
+  pub rest : pickAll (drop i picks) g ≡ pickAll picks g₀
+
+-- the process that is picked next: its number, its position and its instruction's place in the code
+pub record Next (n : Network) (l : Lane) (p : ℕ) : Type 0 where
+  pub there : p < l .network .processes
+  pub low : p < 16
+  pub position : standingOf l p .position < countOf n p
+  pub place : startOf n p + standingOf l p .position < 1016
+
+next-of : (l : Lane) (p : ℕ) → Sound l → p < l .network .processes → Next (l .network) l p
+next-of l p s h =
+    let e = passed (l .network) (s .passed) in
+    let m = s .positions p h in
+    let w = ends-within (l .network) (e .slots-good) p h in
+    record { there = h; low = omega (arith, e .processes-high); position = m; place = omega (arith, e .total-high) }
+
+pub next : {picks : List ℕ} {g₀ g : Progress} {i : ℕ} {n : Network} {p : ℕ} → Partway picks g₀ i n g → i < length picks → p ≡ getD picks i 0 → Next n (g .world .lane) p
+next {i = i} {p = p} s h e = rw (s .same) (next-of _ p (s .sound) (rw (e, ← s .same) (s .there i h)))
+
+-- what the step of a process of a sound lane requires
+steppable-for : (l : Lane) (p : ℕ) → Sound l → p < l .network .processes → Steppable (instructionFor p l) (processOf l p) (channelOf l (channelIn (instructionFor p l)))
+steppable-for l p s h =
+    let c : ℕ = channelIn (instructionFor p l) in
+    let right = stands-right l s p h in
+    let slot = right-at (l .network) (passed (l .network) (s .passed) .slots-good) p h in
+    let bounds = bounds-at c (omega arith) in
+    record {
+      count = countOf (l .network) p;
+      receives = receives (l .network) p (instructionFor p l .b);
+      sends = sends (l .network) p (instructionFor p l .b);
+      right = right .fields;
+      position = omega (arith, s .positions p h, slot .high);
+      oldest = bounds .0;
+      held = bounds .1;
+    }
+  where
+    -- a channel that is there is sound, and one that is not is zero
+    bounds-at : (c : ℕ) → c < 32 → (channelOf l c .oldest < 256) × (channelOf l c .held ≤ channelOf l c .capacity)
+    bounds-at c b = go (decLt c (l .network .channels))
+      where
+        go : Dec (c < l .network .channels) → (channelOf l c .oldest < 256) × (channelOf l c .held ≤ channelOf l c .capacity)
+        go (yes m) = (s .channels c m .place, s .channels c m .within)
+        go (no m) = rw (s .unused c (omega arith) b) (omega arith, omega arith)
+
+pub steppable :
+    {n : Network} (l : Lane) (p : ℕ) {c : ℕ} {i : Instruction} {registers : List ℤ} {q : Process}
+    → Sound l
+    → Next n l p
+    → i ≡ instructionFor p l
+    → registers ≡ eight (l .registers) (8 * p)
+    → q ≡ joined registers (standingOf l p)
+    → c ≡ channelIn i
+    → Steppable i q (channelOf l c)
+steppable l p s h e₁ e₂ e₃ e₄ = rw (e₄, e₃, e₂, e₁) (steppable-for l p s (h .there))
+
+few-more : (b : Bool) (n i : ℕ) → n ≤ i → cond b (n + 1) n ≤ i + 1
+few-more true n i h = omega arith
+few-more false n i h = omega arith
+
+pick-rest : (picks : List ℕ) (i : ℕ) (g : Progress) → i < length picks → pickAll (drop (i + 1) picks) (pickNext (getD picks i 0) g) ≡ pickAll (drop i picks) g
+pick-rest picks i g h = rw (add-one, drop-cons picks i 0 h)
+
+-- one pick more
+more : (picks : List ℕ) (g₀ g : Progress) (i : ℕ) (n : Network) → Partway picks g₀ i n g → i < length picks → Partway picks g₀ (i + 1) n (pickNext (getD picks i 0) g)
+unfolding pickNext
+more picks g₀ g i n s h =
+    let p : ℕ = getD picks i 0 in
+    record {
+      within = omega arith;
+      there = s .there;
+      same = s .same ∙ sym (pick-network p (g .world));
+      long₀ = s .long₀;
+      long = pick-cells p (g .world) ∙ s .long;
+      shaped = pick-shaped p (g .world) (s .shaped);
+      sound = picked-sound p (g .world) (s .shaped) (rw (← s .same) (s .there i h)) (s .sound);
+      few = few-more (hasMoved (stepFor p (g .world) .outcome)) (g .moved) i (s .few);
+      rest = pick-rest picks i g h ∙ s .rest;
+    }
+
+pub partway-more :
+    {picks : List ℕ} {g₀ g g′ : Progress} {i : ℕ} {n : Network} → Partway picks g₀ i n g → i < length picks → g′ ≡ pickNext (getD picks i 0) g
+    → Partway picks g₀ (i + 1) n g′
+partway-more {picks} {g₀} {g} {i = i} {n} s h e = rw e (more picks g₀ g i n s h)
+
+-- no pick left
+pub partway-all : {picks : List ℕ} {g₀ g : Progress} {i : ℕ} {n : Network} → Partway picks g₀ i n g → length picks ≤ i → g ≡ pickAll picks g₀
+partway-all {picks} s h = rw (drop-of-length-le picks h) at (s .rest)
+
+pub channels-low : {picks : List ℕ} {g₀ g : Progress} {i : ℕ} {n : Network} → Partway picks g₀ i n g → n .channels ≤ 32
+channels-low s = rw (s .same) (passed _ (s .sound .passed) .channels-high)
+
+-- which arm a choice is, from a flag u that was tested
+pub cond-yes : {X : Type 0} {x a : X} (b : X) {t u : Bool} → u ≡ t → u ≡ true → x ≡ a → x ≡ cond t a b
+cond-yes b e f g = rw (← e, f) g
+
+pub cond-no : {X : Type 0} {x b : X} (a : X) {t u : Bool} → u ≡ t → u ≡ false → x ≡ b → x ≡ cond t a b
+cond-no a e f g = rw (← e, f) g

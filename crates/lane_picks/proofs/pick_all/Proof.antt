@@ -1,0 +1,335 @@
+-- `lane_picks::pick_all` meets its contract. The loop's invariant: the picks that are left lead to the same end as all of them did at the start,
+-- on a lane that is still sound, with the same network and as many cells.
+-- Assumes nothing.
+use borrow.Author.Needs.{needs}
+use native.Mathlib.Omega.{arith}
+use mathlib.Core.Path.{_≡_, refl, sym, ap, _∙_}
+use mathlib.Core.Bool.{cond}
+use mathlib.Core.List.{List}
+use Prim.Native.Nat.{_+_, _-_}
+use lib.IntN.{pos}
+use lib.ListN.{length, getD, set, length-map}
+use mir.Syntax.{w32}
+use mir.Val.{SFits, toZ, ofZ}
+use mir.Facts.{toZ-ofZ}
+use Rattle.process.specs.declared.Channel.{Channel}
+use Rattle.process.specs.declared.Outcome.the-variants.{Ended}
+use Rattle.lane.specs.State.{world}
+use Rattle.lane.specs.Pick.{channelIn, dropFrom, instructionFor, stepFor}
+use Rattle.lane_picks.specs.Turn.{isHalted}
+use Rattle.lane.proofs.Shape.{Shaped}
+use Rattle.lane.proofs.SoundLaws.{sound-says}
+use Rattle.lane_picks.proofs.Drop.{drop-is}
+use Rattle.lane_picks.proofs.Turn.{progress, Partway, Next, next, instruction-is, steppable, step-is, pick-is, partway-more, partway-all, channels-low, cond-yes, cond-no}
+use Rattle.lane_picks.proofs.pick_all.Statement.{statement}
+use Rattle.lane_picks.proofs.pick_all.Tie as tie
+
+abbrev Inv-loop : tie.InvT-loop
+Inv-loop cells₀ picks net l₀ moved₀ last₀ channel₀ i₀ cells l moved last channel i =
+    Partway picks (progress l₀ cells₀ moved₀ last₀ channel₀) i net (progress l cells moved last channel)
+
+abbrev μ-loop : tie.MeasureT-loop
+μ-loop cells₀ picks net l₀ moved₀ last₀ channel₀ i₀ cells l moved last channel i = length picks - i
+
+-- ---- earlier places of a turn, from its step on
+abbrev start-of : tie.After-step Inv-loop μ-loop → tie.Start Inv-loop μ-loop
+start-of c = c .before .before .before .before .before .before .before .before .before .before .before .before .before .before .before .before .before .before .before .before .before .before .before .before .before
+
+abbrev loop-of : tie.After-step Inv-loop μ-loop → tie.At-loop Inv-loop μ-loop
+loop-of c = c .before .before .before .before .before .before .before .before .before .before .before .before .before .before .before .before .before .before .before .before .before .before
+
+abbrev test-of : tie.After-step Inv-loop μ-loop → tie.In-loop Inv-loop μ-loop
+test-of c = c .before .before .before .before .before .before .before .before .before .before .before .before .before .before .before .before .before .before .before .before .before
+
+abbrev number-of : tie.After-step Inv-loop μ-loop → tie.After-number Inv-loop μ-loop
+number-of c = c .before .before .before .before .before .before .before .before .before .before .before .before .before .before .before .before .before .before .before
+
+abbrev fetch-of : tie.After-step Inv-loop μ-loop → tie.After-fetch Inv-loop μ-loop
+fetch-of c = c .before .before .before .before .before .before .before .before .before .before .before .before .before
+
+abbrev channel-at : tie.After-step Inv-loop μ-loop → tie.After-channel-of Inv-loop μ-loop
+channel-at c = c .before .before .before .before .before .before .before .before
+
+abbrev step-of : tie.After-halted Inv-loop μ-loop → tie.After-step Inv-loop μ-loop
+step-of c = c .before .before .before .before .before .before .before .before .before
+
+-- ---- what is known at a place
+-- at the entry: the lengths of the lane's arrays
+shaped : (c : tie.Start Inv-loop μ-loop) → Shaped (c .args .lane)
+shaped c =
+    record {
+      registers = simp length-map at (c .good .0 .1 .1 .1 .0 .1 .0 .1);
+      processes = simp length-map at (c .good .0 .1 .1 .1 .1 .0 .1 .0 .1);
+      channels = simp length-map at (c .good .0 .1 .1 .1 .1 .1 .0 .1 .0 .1);
+    }
+
+-- the process that is picked
+here : (c : tie.After-number Inv-loop μ-loop) → Next (c .before .before .before .before .before .before .args .lane .network) (c .before .before .before .loop .l) (c .number .result)
+here c = next (c .before .before .before .loop .inv) (c .before .before .loop-test .taken) (c .number .ensures .0)
+
+-- its instruction
+stands : (c : tie.After-fetch Inv-loop μ-loop) → c .fetch .result ≡ instructionFor (c .before .before .before .before .before .before .number .result) (c .before .before .before .before .before .before .before .before .before .loop .l)
+stands c =
+    let o = c .before .before .before .before .before .before .before .before .before .loop in
+    instruction-is (o .l) _ (o .inv .same) (here (c .before .before .before .before .before .before) .position) (c .before .before .before .place .ensures .0) (c .fetch .ensures)
+
+-- the step that it takes
+stepped : (c : tie.After-step Inv-loop μ-loop) → c .step .result ≡ stepFor (number-of c .number .result) (world (loop-of c .loop .l) (loop-of c .loop .cells))
+stepped c =
+    let o = loop-of c .loop in
+    let k = (channel-at c) in
+    let h : SFits w32 (getD (o .cells) (c .before .before .slot .result) (pos 0)) = record { sfits = c .before .step-arg .given } in
+    step-is (o .l) (o .cells) _ (o .inv .same) (o .inv .shaped .processes) (stands (fetch-of c)) (k .before .before .window .ensures) (k .before .join .ensures)
+    (k .channel-of .ensures .0)
+    (c .before .before .before .before .before .end .ensures)
+    (c .before .before .before .ended-if .ensures)
+    (c .before .before .slot .ensures .0)
+    (rw (toZ-ofZ h) at (c .step .ensures))
+
+-- the turn, with the channels hs that it leaves
+turned :
+    (c : tie.After-halted Inv-loop μ-loop) {hs : List Channel}
+    → hs
+    ≡ cond (isHalted (step-of c .step .result .outcome))
+    (dropFrom (loop-of (step-of c) .loop .l .network) (number-of (step-of c) .number .result) 0 (set (loop-of (step-of c) .loop .l .channels) (channel-at (step-of c) .channel-of .result) (step-of c .step .result .channel)))
+    (set (loop-of (step-of c) .loop .l .channels) (channel-at (step-of c) .channel-of .result) (step-of c .step .result .channel))
+    → Partway (start-of (step-of c) .args .picks .now) (progress (start-of (step-of c) .args .lane) (start-of (step-of c) .args .cells .now) 0 Ended 0) (loop-of (step-of c) .loop .i + 1) (start-of (step-of c) .args .lane .network)
+    (progress
+    (record {
+      network = loop-of (step-of c) .loop .l .network;
+      registers = c .before .before .before .before .before .before .before .put-window .last .0;
+      processes = set (loop-of (step-of c) .loop .l .processes) (number-of (step-of c) .number .result) (c .before .before .before .before .before .before .split .result);
+      channels = hs;
+      accepted = loop-of (step-of c) .loop .l .accepted;
+    })
+    (set (loop-of (step-of c) .loop .cells) (c .before .before .before .before .slot2 .result) (toZ w32 (ofZ w32 (c .before .before .word .result))))
+    (loop-of (step-of c) .loop .moved + c .before .gained .result)
+    (step-of c .step .result .outcome)
+    (channel-at (step-of c) .channel-of .result))
+turned c e =
+    let s = (step-of c) in
+    let o = loop-of s .loop in
+    let g : SFits w32 (getD (o .cells) (c .before .before .before .before .slot2 .result) (pos 0)) = record { sfits = c .before .before .before .word-arg .given } in
+    let w : SFits w32 (c .before .before .word .result) = record { sfits = c .before .before .word .ok } in
+    partway-more (o .inv) (test-of s .loop-test .taken)
+    (pick-is (o .l) (o .cells) _ _ _ (number-of s .number .ensures .0) (channel-at s .channel-of .ensures .0 ∙ ap channelIn (stands (fetch-of s))) (stepped s)
+    (c .before .before .before .before .before .before .before .put-window .ensures)
+    (c .before .before .before .before .before .before .split .ensures)
+    (c .before .before .before .before .slot2 .ensures .0)
+    (toZ-ofZ w ∙ (rw (toZ-ofZ g) at (c .before .before .word .ensures)))
+    (c .before .gained .ensures .0)
+    e)
+
+-- ---- the needs
+loop-holds : tie.Need-loop-holds Inv-loop μ-loop
+loop-holds c =
+    let s = c .before .before in
+    record {
+      within = omega arith;
+      there = s .pre .2;
+      same = refl;
+      long₀ = s .pre .1;
+      long = s .pre .1;
+      shaped = shaped s;
+      sound = sound-says (s .args .lane) (s .pre .0);
+      few = omega arith;
+      rest = refl;
+    }
+
+shared-slice-read-number : tie.Need-shared-slice-read-number Inv-loop μ-loop
+shared-slice-read-number c = search needs
+
+number-requires : tie.Need-number-requires Inv-loop μ-loop
+number-requires c κs = next (c .before .before .loop .inv) (c .before .loop-test .taken) refl .low
+
+mul-standing : tie.Need-mul-standing Inv-loop μ-loop
+mul-standing c = search needs
+
+element-copy-out-standing : tie.Need-element-copy-out-standing Inv-loop μ-loop
+element-copy-out-standing c = search needs
+
+mul-place : tie.Need-mul-place Inv-loop μ-loop
+mul-place c = search needs
+
+element-copy-out-place : tie.Need-element-copy-out-place Inv-loop μ-loop
+element-copy-out-place c = search needs
+
+place-requires : tie.Need-place-requires Inv-loop μ-loop
+place-requires c κs = here (c .before .before) .place
+
+fetch-requires : tie.Need-fetch-requires Inv-loop μ-loop
+fetch-requires c κs = search needs
+
+window-requires : tie.Need-window-requires Inv-loop μ-loop
+window-requires c κs = search needs
+
+join-requires : tie.Need-join-requires Inv-loop μ-loop
+join-requires c κs = search needs
+
+channel-of-requires : tie.Need-channel-of-requires Inv-loop μ-loop
+channel-of-requires c κs = search needs
+
+mul-h : tie.Need-mul-h Inv-loop μ-loop
+mul-h c = search needs
+
+element-copy-out-h : tie.Need-element-copy-out-h Inv-loop μ-loop
+element-copy-out-h c = search needs
+
+element-copy-out-end : tie.Need-element-copy-out-end Inv-loop μ-loop
+element-copy-out-end c = search needs
+
+end-requires : tie.Need-end-requires Inv-loop μ-loop
+end-requires c κs = search needs
+
+mul-ended-if : tie.Need-mul-ended-if Inv-loop μ-loop
+mul-ended-if c = search needs
+
+element-copy-out-ended-if : tie.Need-element-copy-out-ended-if Inv-loop μ-loop
+element-copy-out-ended-if c = search needs
+
+ended-if-requires : tie.Need-ended-if-requires Inv-loop μ-loop
+ended-if-requires c κs = search needs
+
+slot-requires : tie.Need-slot-requires Inv-loop μ-loop
+slot-requires c κs = search needs
+
+mul-step : tie.Need-mul-step Inv-loop μ-loop
+mul-step c = search needs
+
+slice-copy-out-step : tie.Need-slice-copy-out-step Inv-loop μ-loop
+slice-copy-out-step c = omega (arith, c .slot .ensures .1, c .before .before .before .before .before .before .before .before .before .before .before .before .before .before .before .before .before .before .before .before .loop .inv .long)
+
+step-requires : tie.Need-step-requires Inv-loop μ-loop
+step-requires c κs =
+    let o = c .before .before .before .before .before .before .before .before .before .before .before .before .before .before .before .before .before .before .before .before .before .loop in
+    let k = (c .before .before .before .before .before .before .before) in
+    steppable (o .l) _ (o .inv .sound) (here (c .before .before .before .before .before .before .before .before .before .before .before .before .before .before .before .before .before .before)) (stands (c .before .before .before .before .before .before .before .before .before .before .before .before)) (k .before .before .window .ensures) (k .before .join .ensures)
+    (k .channel-of .ensures .0)
+
+put-window-requires : tie.Need-put-window-requires Inv-loop μ-loop
+put-window-requires c κs = number-of (c .before) .number .ensures .1
+
+split-requires : tie.Need-split-requires Inv-loop μ-loop
+split-requires c κs = search needs
+
+mul-t22 : tie.Need-mul-t22 Inv-loop μ-loop
+mul-t22 c = omega (arith, number-of (c .before .before .before) .number .ensures .1)
+
+element-set-from-l : tie.Need-element-set-from-l Inv-loop μ-loop
+element-set-from-l c = omega (arith, number-of (c .before .before .before) .number .ensures .1)
+
+mul-kept : tie.Need-mul-kept Inv-loop μ-loop
+mul-kept c = omega (arith, channel-at (c .before .before .before .before) .channel-of .ensures .1)
+
+element-set-from-kept : tie.Need-element-set-from-kept Inv-loop μ-loop
+element-set-from-kept c = omega (arith, channel-at (c .before .before .before .before) .channel-of .ensures .1)
+
+slot-requires-2 : tie.Need-slot-requires-2 Inv-loop μ-loop
+slot-requires-2 c κs = channel-at (c .before .before .before .before) .channel-of .ensures .1
+
+mul-word : tie.Need-mul-word Inv-loop μ-loop
+mul-word c = search needs
+
+slice-copy-out-word : tie.Need-slice-copy-out-word Inv-loop μ-loop
+slice-copy-out-word c = omega (arith, c .slot2 .ensures .1, loop-of (c .before .before .before .before .before) .loop .inv .long)
+
+word-requires : tie.Need-word-requires Inv-loop μ-loop
+word-requires c κs = search needs
+
+mul-t22-2 : tie.Need-mul-t22-2 Inv-loop μ-loop
+mul-t22-2 c = omega (arith, c .before .before .slot2 .ensures .1)
+
+slice-set-from-cells : tie.Need-slice-set-from-cells Inv-loop μ-loop
+slice-set-from-cells c = omega (arith, c .before .before .slot2 .ensures .1, loop-of (c .before .before .before .before .before .before .before) .loop .inv .long)
+
+gained-requires : tie.Need-gained-requires Inv-loop μ-loop
+gained-requires c κs = search needs
+
+add-moved : tie.Need-add-moved Inv-loop μ-loop
+add-moved c = omega (arith, c .gained .ensures .1, loop-of (c .before .before .before .before .before .before .before .before) .loop .inv .few, test-of (c .before .before .before .before .before .before .before .before) .loop-test .taken, start-of (c .before .before .before .before .before .before .before .before) .good .1 .1 .0 .0)
+
+add-i : tie.Need-add-i Inv-loop μ-loop
+add-i c = omega (arith, test-of (c .before .before .before .before .before .before .before .before) .loop-test .taken, start-of (c .before .before .before .before .before .before .before .before) .good .1 .1 .0 .0)
+
+halted-requires : tie.Need-halted-requires Inv-loop μ-loop
+halted-requires c κs = search needs
+
+drop-all-requires : tie.Need-drop-all-requires Inv-loop μ-loop
+drop-all-requires c κs = channels-low (loop-of (step-of (c .before .before .before .before .before)) .loop .inv)
+
+loop-less : tie.Need-loop-less Inv-loop μ-loop
+loop-less c = omega (arith, test-of (step-of (c .before .before .before .before .before .before)) .loop-test .taken)
+
+loop-again : tie.Need-loop-again Inv-loop μ-loop
+loop-again c =
+    let d = (c .before .before .before .before .before .before) in
+    let s = step-of d in
+    let hs = set (loop-of s .loop .l .channels) (channel-at s .channel-of .result) (s .step .result .channel) in
+    turned d
+    (cond-yes hs (d .halted .ensures) (c .before .before .before .before .before .if1 .taken)
+    (drop-is _ _ (number-of s .number .result) hs (loop-of s .loop .inv .same) (c .drop-all .ensures)))
+
+loop-less-2 : tie.Need-loop-less-2 Inv-loop μ-loop
+loop-less-2 c = omega (arith, test-of (step-of (c .before)) .loop-test .taken)
+
+loop-again-2 : tie.Need-loop-again-2 Inv-loop μ-loop
+loop-again-2 c = turned (c .before) (cond-no _ (c .before .halted .ensures) (c .if1 .left) refl)
+
+same-length : tie.Need-same-length Inv-loop μ-loop
+same-length c = c .before .loop .inv .long ∙ sym (c .before .loop .inv .long₀)
+
+returns : tie.Need-returns Inv-loop μ-loop
+returns c = partway-all (c .before .loop .inv) (c .loop-test .left)
+
+pub pick-all-spec : {M : Type 1} → statement M
+pick-all-spec =
+    tie.close
+    (tie.spec
+    Inv-loop
+    μ-loop
+    loop-holds
+    shared-slice-read-number
+    number-requires
+    mul-standing
+    element-copy-out-standing
+    mul-place
+    element-copy-out-place
+    place-requires
+    fetch-requires
+    window-requires
+    join-requires
+    channel-of-requires
+    mul-h
+    element-copy-out-h
+    element-copy-out-end
+    end-requires
+    mul-ended-if
+    element-copy-out-ended-if
+    ended-if-requires
+    slot-requires
+    mul-step
+    slice-copy-out-step
+    step-requires
+    put-window-requires
+    split-requires
+    mul-t22
+    element-set-from-l
+    mul-kept
+    element-set-from-kept
+    slot-requires-2
+    mul-word
+    slice-copy-out-word
+    word-requires
+    mul-t22-2
+    slice-set-from-cells
+    gained-requires
+    add-moved
+    add-i
+    halted-requires
+    drop-all-requires
+    loop-less
+    loop-again
+    loop-less-2
+    loop-again-2
+    same-length
+    returns)

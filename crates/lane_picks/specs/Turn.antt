@@ -1,0 +1,32 @@
+-- One pick as the code makes it, part by part: the cell of a message, the end of a process, the ends of the channels.
+-- Assumes nothing.
+use mathlib.Core.Bool.{Bool, true, false}
+use mathlib.Core.List.{List, []}
+use Prim.Native.Nat.{ℕ}
+use lib.IntN.{ℤ}
+use Rattle.network.specs.declared.Network.{Network}
+use Rattle.process.specs.declared.Outcome.{Outcome}
+use Rattle.process.specs.declared.Outcome.the-variants.{Moved, Sent, Halted, WaitEmpty, WaitFull, Ended}
+
+-- what the cell that a message would go to holds after a step, where it held the old word before
+abbrev pub wordAfter : Outcome → ℤ → ℤ
+wordAfter Moved old = old
+wordAfter (Sent v) old = v
+wordAfter Halted old = old
+wordAfter WaitEmpty old = old
+wordAfter WaitFull old = old
+wordAfter Ended old = old
+
+-- the process ended by this step
+abbrev pub isHalted : Outcome → Bool
+isHalted Moved = false
+isHalted (Sent v) = false
+isHalted Halted = true
+isHalted WaitEmpty = false
+isHalted WaitFull = false
+isHalted Ended = false
+
+-- a network with these senders and receivers of so many channels, and nothing else
+abbrev pub ends : List ℕ → List ℕ → ℕ → Network
+ends sender receiver channels =
+    record { processes = 0; channels = channels; first = []; count = []; sender = sender; receiver = receiver; capacity = []; code = [] }
