@@ -100,8 +100,8 @@ fn channel_of(i: Instruction) -> usize
     (i.b % 32) as usize
 }
 
-// The cell of message i of channel c.
-fn slot(c: usize, channel: Channel, i: u16) -> usize
+// The cell of message i of channel c. Public for the crates above, which know that the channel is there.
+pub fn slot(c: usize, channel: Channel, i: u16) -> usize
     requires { ⌜ c < 32 ⌝ }
     ensures { λ r. ⌜ (r ≡ slot c channel i) × (r < 8192) ⌝ }
 {

@@ -1,0 +1,22 @@
+-- `lane_calls::tests::offered` meets its contract.
+-- Assumes nothing.
+use borrow.Author.Needs.{needs}
+use Rattle.lane_calls.specs.Tests.{offered}
+use Rattle.lane_calls.proofs.tests.offered.Statement.{statement}
+use Rattle.lane_calls.proofs.tests.offered.Tie as tie
+
+refuse-requires : tie.Need-refuse-requires
+refuse-requires c κs = search needs
+
+refuse-requires-2 : tie.Need-refuse-requires-2
+refuse-requires-2 c κs = search needs
+
+refuse-requires-3 : tie.Need-refuse-requires-3
+refuse-requires-3 c κs = search needs
+
+returns : tie.Need-returns
+unfolding offered
+returns c = rw (c .refuse3 .ensures, c .before .refuse2 .ensures, c .before .before .refuse .ensures)
+
+pub offered-spec : {M : Type 1} → statement M
+offered-spec = tie.close (tie.spec refuse-requires refuse-requires-2 refuse-requires-3 returns)
