@@ -18,15 +18,11 @@ use Rattle.network.specs.Rules.{startOf, countOf, senderOf, receiverOf, capacit
 use Rattle.network.proofs.Conjunction.{both-true, true-both, between-true}
 use Rattle.network.proofs.Passed.{Passed, total-positive}
 use Rattle.lane_file.specs.File.{headerOf, slotOf, recordOf}
-use Rattle.lane_file.specs.Read.{blocks, codePlace, networkOf, checkRight, checks}
+use Rattle.lane_file.specs.Read.{Bytes, blocks, codePlace, networkOf, checkRight, checks}
 use Rattle.lane_file.proofs.Joined.{same-place}
 use Rattle.lane_file.proofs.Places.{blocksOf, Holds}
 use Rattle.lane_file.proofs.Verdicts.{each-true, all-true, Seven, Headed, headed, Rested, rested}
 use Rattle.lane_file.proofs.Fields.{processes-of, channels-of, start-of, count-of, sender-of, receiver-of, capacity-of, code-of}
-
--- a list of bytes
-abbrev pub Bytes : List ℕ → Type 0
-Bytes s = (k : ℕ) → getD s k 0 < 256
 
 -- the two bytes of a number that stands in a list of bytes
 word-bytes : (s : List ℕ) → Bytes s → (k x : ℕ) → x ≡ wordAt s k → (q : ℕ) → q < 2 → getD s (k + q) 0 ≡ getD (twoBytes x) q 0

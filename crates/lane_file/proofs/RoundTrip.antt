@@ -9,9 +9,8 @@ use Rattle.network.specs.declared.Network.{Network}
 use Rattle.network.specs.Rules.{passes}
 use Rattle.network.proofs.Passed.{Passed, passed, passed-back}
 use Rattle.lane_file.specs.File.{fileOf}
-use Rattle.lane_file.specs.Read.{accepted, networkOf, answerIn, orNone, Result, readOf}
+use Rattle.lane_file.specs.Read.{Bytes, accepted, networkOf, answerIn, orNone, Result, readOf}
 pub use Rattle.lane_file.proofs.Places.{Shaped}
-pub use Rattle.lane_file.proofs.Held.{Bytes}
 use Rattle.lane_file.proofs.Places.{blocksOf, file-holds}
 use Rattle.lane_file.proofs.Unique.{one-file-holds}
 use Rattle.lane_file.proofs.Verdicts.{seven, seven-back}

@@ -2,7 +2,7 @@
 -- Assumes nothing.
 use mathlib.Core.Bool.{Bool, true, false, _&&_}
 use mathlib.Core.List.{List}
-use Prim.Native.Nat.{ℕ, _+_, _-_, _*_, _/_, _%_, min}
+use Prim.Native.Nat.{ℕ, _+_, _-_, _*_, _/_, _%_, _<_, min}
 use lib.Dec.{eqb}
 use lib.ListN.{length, getD, take, drop, replicate}
 use Rattle.base.specs.declared.Verdict.{Verdict}
@@ -16,6 +16,10 @@ use Rattle.network.specs.Rules.{processesRight, channelsRight, slots, total, bl
 use Rattle.lane_file.specs.declared.Answer.{Answer}
 use Rattle.lane_file.specs.declared.Answer.the-variants.{Accepted, Refused}
 use Rattle.lane_file.specs.declared.Reading.{Reading}
+
+-- a list of bytes
+abbrev pub Bytes : List ℕ → Type 0
+Bytes s = (k : ℕ) → getD s k 0 < 256
 
 -- ---- the fields of a file
 abbrev pub blocks : List ℕ → ℕ

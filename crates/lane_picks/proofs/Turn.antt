@@ -130,7 +130,7 @@ pub record Next (n : Network) (l : Lane) (p : ℕ) : Type 0 where
   pub position : standingOf l p .position < countOf n p
   pub place : startOf n p + standingOf l p .position < 1016
 
-next-of : (l : Lane) (p : ℕ) → Sound l → p < l .network .processes → Next (l .network) l p
+pub next-of : (l : Lane) (p : ℕ) → Sound l → p < l .network .processes → Next (l .network) l p
 next-of l p s h =
     let e = passed (l .network) (s .passed) in
     let m = s .positions p h in
@@ -141,7 +141,7 @@ pub next : {picks : List ℕ} {g₀ g : Progress} {i : ℕ} {n : Network} {p : �
 next {i = i} {p = p} s h e = rw (s .same) (next-of _ p (s .sound) (rw (e, ← s .same) (s .there i h)))
 
 -- what the step of a process of a sound lane requires
-steppable-for : (l : Lane) (p : ℕ) → Sound l → p < l .network .processes → Steppable (instructionFor p l) (processOf l p) (channelOf l (channelIn (instructionFor p l)))
+pub steppable-for : (l : Lane) (p : ℕ) → Sound l → p < l .network .processes → Steppable (instructionFor p l) (processOf l p) (channelOf l (channelIn (instructionFor p l)))
 steppable-for l p s h =
     let c : ℕ = channelIn (instructionFor p l) in
     let right = stands-right l s p h in

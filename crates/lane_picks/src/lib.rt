@@ -18,9 +18,9 @@ ghost use Rattle.lane.specs.Sound.{soundOf};
 ghost use Rattle.lane.specs.Pick.{channelIn, dropFrom, hasMoved, progressOf, pickAll, unpicked};
 ghost use Rattle.lane_picks.specs.Turn.{wordAfter, isHalted, ends};
 
-// ---- the process that is picked
+// ---- the process that is picked. The functions that gather it are public for the crates above, which look what it would do.
 // The registers of process p.
-fn window(file: &[i32; 128], p: usize) -> [i32; 8]
+pub fn window(file: &[i32; 128], p: usize) -> [i32; 8]
     requires { ⌜ p < 16 ⌝ }
     ensures { λ r. ⌜ r ≡ eight (now (file .entry)) (8 * p) ⌝ }
 {
@@ -54,7 +54,7 @@ fn put_window(file: &mut [i32; 128], p: usize, process: Process)
     file[b + 7] = r[7];
 }
 
-fn join(registers: [i32; 8], standing: Standing) -> Process
+pub fn join(registers: [i32; 8], standing: Standing) -> Process
     ensures { λ r. ⌜ r ≡ joined registers standing ⌝ }
 {
     let condition = standing.condition;
@@ -86,7 +86,7 @@ fn number(pick: u8) -> usize
 }
 
 // The number of the instruction at a position of a process that starts there.
-fn place(start: u16, position: u16) -> usize
+pub fn place(start: u16, position: u16) -> usize
     requires { ⌜ start + position < 1016 ⌝ }
     ensures { λ r. ⌜ (r ≡ start + position) × (r < 1016) ⌝ }
 {
@@ -94,7 +94,7 @@ fn place(start: u16, position: u16) -> usize
 }
 
 // ---- its channel
-fn channel_of(i: Instruction) -> usize
+pub fn channel_of(i: Instruction) -> usize
     ensures { λ r. ⌜ (r ≡ channelIn i) × (r < 32) ⌝ }
 {
     (i.b % 32) as usize
@@ -109,7 +109,7 @@ pub fn slot(c: usize, channel: Channel, i: u16) -> usize
 }
 
 // An end of a channel as a number.
-fn end(e: u8) -> usize
+pub fn end(e: u8) -> usize
     ensures { λ r. ⌜ r ≡ e ⌝ }
 {
     e as usize

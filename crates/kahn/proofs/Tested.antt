@@ -1,0 +1,127 @@
+-- Computed tests of files and networks, and the rules that they show: a list is bytes, two lists are alike, a network passes the file's rules.
+-- Assumes nothing.
+use mathlib.Core.Path.{_≡_, refl, ap, _∙_}
+use mathlib.Core.Logic.{inl, inr}
+use mathlib.Core.Bool.{Bool, true, false, _&&_, _||_, false≢true}
+use mathlib.Core.List.{List, [], _∷_, _++_}
+use Prim.Native.Nat.{ℕ, zero, suc, _+_, _-_, _*_, _/_, _%_, _≤_, _<_}
+use native.Mathlib.Decide.{ℕ-discrete}
+use native.Mathlib.Omega.{arith}
+use borrow.Author.Tests.{ltb-true, leb-true, eqb-true, eq-eqb}
+use lib.Dec.{eqb, ltb, leb}
+use lib.ListN.{length, getD, replicate}
+use Rattle.base.specs.declared.Verdict.the-variants.{Good}
+use Rattle.base.specs.Tests.{need, isGood, isZero}
+use Rattle.base.proofs.Tests.{all, true-need}
+use Rattle.network.specs.declared.Network.{Network}
+use Rattle.network.specs.Rules.{processesRight, channelsRight, slots, total, blocksFor, records, unusedSlots, unusedRecords, unusedCode, instructions, passes}
+use Rattle.network.proofs.Conjunction.{both-true}
+use Rattle.lane_file.specs.File.{fileOf}
+use Rattle.lane_file.specs.Read.{Bytes}
+use Rattle.lane_file.proofs.RoundTrip.{Shaped, read-written}
+use Rattle.kahn.specs.Boards.{MayDiffer, Alike}
+use Rattle.kahn.specs.Theorem.{ReadAs}
+
+-- ---- bytes
+abbrev pub allBytes : List ℕ → Bool
+allBytes [] = true
+allBytes (b ∷ bs) = ltb b 256 && allBytes bs
+
+bytes-by : (f : List ℕ) → allBytes f ≡ true → Bytes f
+bytes-by [] e k = omega arith
+bytes-by (b ∷ bs) e zero = ltb-true b 256 (both-true (ltb b 256) (allBytes bs) e .0)
+bytes-by (b ∷ bs) e (suc k) = bytes-by bs (both-true (ltb b 256) (allBytes bs) e .1) k
+
+-- ---- alike: a byte of a capacity, or of block 0's check
+abbrev ofCapacity : ℕ → Bool
+ofCapacity k = (leb 72 k && ltb k 200) && leb 2 (k % 4)
+
+abbrev mayDiffer : ℕ → Bool
+mayDiffer k = ofCapacity k || (eqb k 510 || eqb k 511)
+
+of-capacity : (k : ℕ) → 72 ≤ k → k < 200 → 2 ≤ k % 4 → MayDiffer k
+of-capacity k l h q = at (ℕ-discrete (k % 4) 2)
+  where
+    at : Dec (k % 4 ≡ 2) → MayDiffer k
+    at (yes e) = inl ((k - 72) / 4, omega arith, inl (omega arith))
+    at (no e) = inl ((k - 72) / 4, omega arith, inr (omega arith))
+
+may-differ : (k : ℕ) → mayDiffer k ≡ true → MayDiffer k
+may-differ k e = at (ofCapacity k) (eqb k 510) refl refl e
+  where
+    at : (s t : Bool) → ofCapacity k ≡ s → eqb k 510 ≡ t → (s || (t || eqb k 511)) ≡ true → MayDiffer k
+    at true t p q e =
+        let b = both-true (leb 72 k && ltb k 200) (leb 2 (k % 4)) p in
+        let a = both-true (leb 72 k) (ltb k 200) (b .0) in
+        of-capacity k (leb-true 72 k (a .0)) (ltb-true k 200 (a .1)) (leb-true 2 (k % 4) (b .1))
+    at false true p q e = inr (inl (eqb-true k 510 q))
+    at false false p q e = inr (inr (eqb-true k 511 e))
+
+-- the bytes from place i on
+abbrev alikeFrom : ℕ → List ℕ → List ℕ → Bool
+alikeFrom i [] [] = true
+alikeFrom i [] (y ∷ ys) = false
+alikeFrom i (x ∷ xs) [] = false
+alikeFrom i (x ∷ xs) (y ∷ ys) = (mayDiffer i || eqb x y) && alikeFrom (suc i) xs ys
+
+-- lists that pass it from place i on
+record AlikeFrom (i : ℕ) (f g : List ℕ) : Type 0 where
+  long : length f ≡ length g
+  same : (k j : ℕ) → k < length f → j ≡ i + k → (MayDiffer j → ⊥) → getD f k 0 ≡ getD g k 0
+
+same-byte : (i x y : ℕ) (s : Bool) → mayDiffer i ≡ s → (s || eqb x y) ≡ true → (MayDiffer i → ⊥) → x ≡ y
+same-byte i x y true p e n = absurd (n (may-differ i p))
+same-byte i x y false p e n = eqb-true x y e
+
+alike-from : (i : ℕ) (f g : List ℕ) → alikeFrom i f g ≡ true → AlikeFrom i f g
+alike-from i [] [] e = record { long = refl; same = λ k j h q n. refl }
+alike-from i [] (y ∷ ys) e = absurd (false≢true e)
+alike-from i (x ∷ xs) [] e = absurd (false≢true e)
+alike-from i (x ∷ xs) (y ∷ ys) e =
+    let b = both-true (mayDiffer i || eqb x y) (alikeFrom (suc i) xs ys) e in
+    next (b .0) (alike-from (suc i) xs ys (b .1))
+  where
+    next : (mayDiffer i || eqb x y) ≡ true → AlikeFrom (suc i) xs ys → AlikeFrom i (x ∷ xs) (y ∷ ys)
+    next t r = record { long = ap suc (r .long); same = at }
+      where
+        at : (k j : ℕ) → k < length (x ∷ xs) → j ≡ i + k → (MayDiffer j → ⊥) → getD (x ∷ xs) k 0 ≡ getD (y ∷ ys) k 0
+        at zero j h q n = let p : j ≡ i = omega arith in same-byte i x y (mayDiffer i) refl t (rw p at n)
+        at (suc k) j h q n = r .same k j (omega arith) (omega arith) n
+
+abbrev pub areAlike : List ℕ → List ℕ → Bool
+areAlike f g = alikeFrom 0 f g
+
+pub alike-by : (f g : List ℕ) → areAlike f g ≡ true → Alike f g
+alike-by f g e =
+    let r = alike-from 0 f g e in
+    record { long = r .long; same = λ k h n. r .same k k h (omega arith) n }
+
+-- ---- a network whose code is zero past its program
+zero-past : (program : List ℕ) (k i : ℕ) → length program ≤ i → getD (program ++ replicate k 0) i 0 ≡ 0
+zero-past [] zero i h = refl
+zero-past [] (suc k) zero h = refl
+zero-past [] (suc k) (suc i) h = zero-past [] k i (omega arith)
+zero-past (x ∷ xs) k zero h = absurd (omega arith)
+zero-past (x ∷ xs) k (suc i) h = zero-past xs k i (omega arith)
+
+unused-zero : (n : Network) (program : List ℕ) (k : ℕ) → n .code ≡ program ++ replicate k 0 → length program ≤ 4 * total n → unusedCode n ≡ Good
+unfolding unusedCode
+unused-zero n program k e h =
+    all (λ i. need (isZero (n .code) i) i) (4064 - 4 * total n) (4 * total n)
+    (λ i l m. true-need (isZero (n .code) i) i
+    (eq-eqb (getD (n .code) i 0) 0 (ap (λ (l : List ℕ). getD l i 0) e ∙ zero-past program k i (omega arith))))
+
+-- the rules of a file but for the unused code
+abbrev pub passesBut : Network → Bool
+passesBut n =
+    processesRight (n .processes) && channelsRight (n .channels) && isGood (slots n) && leb (blocksFor (total n)) 8 && isGood (records n)
+    && (isGood (unusedSlots n) && isGood (unusedRecords n) && true)
+    && isGood (instructions n)
+
+pub passes-by : (n : Network) (program : List ℕ) (k : ℕ) → n .code ≡ program ++ replicate k 0 → length program ≤ 4 * total n → passesBut n ≡ true → passes n ≡ true
+unfolding passes
+passes-by n program k e h t = rw (unused-zero n program k e h) t
+
+-- the file of a network that passes, read
+pub read-by : (n : Network) → Shaped n → passes n ≡ true → allBytes (fileOf n) ≡ true → ReadAs (fileOf n) n
+read-by n shaped pass e = (bytes-by (fileOf n) e, read-written n shaped pass)

@@ -1,0 +1,42 @@
+-- Demand 3, the statement: two files alike but for the capacities and block 0's check, any 8,192 cells each, any input, any lists of calls that are
+-- fair to it. `any-spare-fits` of proofs/Whole.antt proves it.
+-- Assumes nothing.
+use mathlib.Core.Path.{_≡_}
+use mathlib.Core.List.{List}
+use Prim.Native.Nat.{ℕ, _≤_}
+use lib.ListN.{length}
+use lib.IntN.{ℤ}
+use Rattle.network.specs.declared.Network.{Network}
+use Rattle.lane.specs.State.{World}
+use Rattle.lane_file.specs.Read.{Bytes, accepted, readOf}
+use Rattle.kahn.specs.Plain.{withoutCapacities, plainAfter}
+use Rattle.kahn.specs.Calls.{Call, movedIn}
+use Rattle.kahn.specs.Boards.{board, Fair, AtRest, Alike, SendsPrefix, Agrees, AgreeWith}
+
+-- a list of bytes is read as a network
+abbrev pub ReadAs : List ℕ → Network → Type 0
+ReadAs f n = Bytes f × (readOf f ≡ record { answer = accepted; network = n })
+
+-- what holds of one board
+pub record Holds (n : Network) (input : ℕ → List ℤ) (calls : List Call) (w : World) : Type 0 where
+  -- (a)
+  pub sends : SendsPrefix n input calls w
+  -- (b)
+  pub rests : AtRest n input calls w → (rounds : ℕ) → movedIn calls w ≤ rounds → Agrees n input calls w (plainAfter (withoutCapacities n) input rounds)
+
+-- and of two
+pub record Determined (n₁ n₂ : Network) (input : ℕ → List ℤ) (calls₁ calls₂ : List Call) (w₁ w₂ : World) : Type 0 where
+  -- one plain order for both
+  pub same : withoutCapacities n₁ ≡ withoutCapacities n₂
+  pub first : Holds n₁ input calls₁ w₁
+  pub second : Holds n₂ input calls₂ w₂
+  -- (c)
+  pub agree : AtRest n₁ input calls₁ w₁ → AtRest n₂ input calls₂ w₂ → AgreeWith n₁ calls₁ calls₂ w₁ w₂
+
+-- "Then any spare fits any lane."
+abbrev pub AnySpareFits : Type 0
+AnySpareFits =
+    (f₁ f₂ : List ℕ) (n₁ n₂ : Network) → ReadAs f₁ n₁ → ReadAs f₂ n₂ → Alike f₁ f₂
+    → (cells₁ cells₂ : List ℤ) → length cells₁ ≡ 8192 → length cells₂ ≡ 8192
+    → (input : ℕ → List ℤ) (calls₁ calls₂ : List Call) → Fair n₁ input calls₁ (board n₁ cells₁) → Fair n₂ input calls₂ (board n₂ cells₂)
+    → Determined n₁ n₂ input calls₁ calls₂ (board n₁ cells₁) (board n₂ cells₂)

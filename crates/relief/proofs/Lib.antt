@@ -1,0 +1,10 @@
+pub mod Least
+pub mod First
+pub mod Walk
+pub mod Front
+pub mod Waiting
+pub mod Enlarged
+pub mod Pigeonhole
+pub mod Circles
+pub mod Rule
+pub mod Relieving

@@ -1,0 +1,5 @@
+pub mod Waits
+pub mod Rings
+pub mod Taken
+pub mod Parts
+pub mod Relief

@@ -1,0 +1,112 @@
+// The search for the ring to relieve.
+use crate::Sought;
+use crate::Waits;
+ghost use mathlib.Core.Path.{_≡_};
+ghost use mathlib.Core.Bool.{cond, not, _&&_, _||_};
+ghost use Prim.Native.Nat.{_≤_, _<_};
+ghost use lib.Dec.{eqb, ltb};
+ghost use lib.ListN.{getD};
+ghost use Rattle.relief.specs.Rings.{lesser, search};
+ghost use Rattle.relief.specs.Parts.{pointsIn, numberIn, foundOf};
+
+// A byte as a number.
+fn wide(x: u8) -> usize
+    ensures { λ r. ⌜ r ≡ x ⌝ }
+{
+    x as usize
+}
+
+// Of two full waits the first is the one to relieve: the smaller capacity, the lower number on a tie. A capacity of 0 stands for none.
+fn lesser(capacity: u16, channel: u8, other: u16, rival: u8) -> bool
+    ensures { λ r. ⌜ r ≡ lesser capacity channel other rival ⌝ }
+{
+    if capacity == 0 {
+        return false;
+    }
+    if other == 0 {
+        return true;
+    }
+    if capacity == other {
+        return channel < rival;
+    }
+    capacity < other
+}
+
+// Of the processes q and best the one whose full wait is the one to relieve.
+fn better(waits: Waits, q: usize, best: usize) -> usize
+    requires { ⌜ (q < 16) × (best < 16) ⌝ }
+    ensures { λ r. ⌜ (r ≡ cond (lesser (getD (waits .full) q 0) (getD (waits .channel) q 0) (getD (waits .full) best 0) (getD (waits .channel) best 0)) q best) × (r < 16) ⌝ }
+{
+    if lesser(
+        waits.full[q],
+        waits.channel[q],
+        waits.full[best],
+        waits.channel[best],
+    ) {
+        q
+    } else {
+        best
+    }
+}
+
+// A full wait on a channel below a limit.
+fn below(capacity: u16, limit: u16) -> bool
+    ensures { λ r. ⌜ r ≡ (not (eqb capacity 0) && ltb capacity limit) ⌝ }
+{
+    if capacity == 0 {
+        return false;
+    }
+    capacity < limit
+}
+
+// One or the other.
+fn either(x: bool, y: bool) -> bool
+    ensures { λ r. ⌜ r ≡ (x || y) ⌝ }
+{
+    x || y
+}
+
+// The ring to relieve: from each process in turn a walk along the pointings, until one leads back on a ring with a full
+// wait below 256. A ring whose full waits are all at 256, the largest capacity, is passed over and remembered.
+pub fn search(waits: Waits, count: usize) -> Sought
+    requires { ⌜ count ≤ 16 ⌝ }
+    ensures { λ r. ⌜ (foundOf r ≡ search (pointsIn (waits .points) count) (numberIn (waits .full)) (numberIn (waits .channel)) count) × (r .length ≤ 16) ⌝ }
+{
+    let mut ring = [0u8; 16];
+    let mut length: usize = 0;
+    let mut channel: usize = 0;
+    let mut ceiling = false;
+    let mut start: usize = 0;
+    'search: while start < count {
+        let mut at = start;
+        let mut best = start;
+        let mut n: usize = 0;
+        while n < count {
+            ring[n] = at as u8;
+            best = better(waits, at, best);
+            n += 1;
+            let to = wide(waits.points[at]);
+            if to == start {
+                let capacity = waits.full[best];
+                if below(capacity, 256) {
+                    length = n;
+                    channel = wide(waits.channel[best]);
+                    break 'search;
+                }
+                ceiling = either(ceiling, below(capacity, 257));
+                break;
+            }
+            if to >= count {
+                break;
+            }
+            at = to;
+        }
+        start += 1;
+    }
+    Sought {
+        ring,
+        length,
+        channel,
+        ceiling,
+    }
+}
