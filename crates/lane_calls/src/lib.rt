@@ -103,10 +103,8 @@ pub fn pick(lane: Lane, cells: &mut [i32], p: usize) -> Picked
 fn not_fed(lane: Lane, r: Refusal) -> Fed
     ensures { λ f. ⌜ f ≡ record { lane = lane; answer = FeedAnswer.Refused r } ⌝ }
 {
-    Fed {
-        lane,
-        answer: FeedAnswer::Refused(r),
-    }
+    let answer = FeedAnswer::Refused(r);
+    Fed { lane, answer }
 }
 
 // A message goes to its cell, or nowhere where the receiver has ended.
@@ -189,10 +187,8 @@ pub fn close(lane: Lane, c: usize) -> Fed
 fn not_taken(lane: Lane, r: Refusal) -> Taken
     ensures { λ t. ⌜ t ≡ record { lane = lane; answer = TakeAnswer.Refused r } ⌝ }
 {
-    Taken {
-        lane,
-        answer: TakeAnswer::Refused(r),
-    }
+    let answer = TakeAnswer::Refused(r);
+    Taken { lane, answer }
 }
 
 // Nothing is held: the end where the channel is closed, and that is an accepted call; else a refusal.

@@ -21,22 +21,16 @@ pub fn opened(cells: usize, lane: Lane, number: usize, count: usize) -> Tested
 {
     let there = number < count;
     let sound = lane_sound::sound(lane);
-    let next = refuse(!there, Refusal::Absent, Tested::Passed);
-    refuse(
-        cells != 8192,
-        Refusal::Buffer,
-        refuse(!sound, Refusal::Unsound, next),
-    )
+    let named = refuse(!there, Refusal::Absent, Tested::Passed);
+    let safe = refuse(!sound, Refusal::Unsound, named);
+    refuse(cells != 8192, Refusal::Buffer, safe)
 }
 
 // The tests of what comes to a channel from outside: its sender is inside, it is closed, it is full.
 pub fn offered(inside: bool, closed: bool, full: bool) -> Tested
     ensures { λ t. ⌜ t ≡ offered inside closed full ⌝ }
 {
-    let open = refuse(
-        closed,
-        Refusal::Closed,
-        refuse(full, Refusal::Full, Tested::Passed),
-    );
+    let room = refuse(full, Refusal::Full, Tested::Passed);
+    let open = refuse(closed, Refusal::Closed, room);
     refuse(inside, Refusal::Inside, open)
 }

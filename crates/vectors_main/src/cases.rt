@@ -7,7 +7,7 @@ pub const COUNT: usize = 99;
 
 // Byte AT becomes VALUE, then byte AT_TOO becomes VALUE_TOO (byte 0 keeps its 76 where nothing more is changed), and the checks of the blocks in
 // the mask SEALED (1, 2, 4) are made right.
-const AT: [usize; 99] = [
+pub const AT: [usize; 99] = [
     0,
     3,
     512,
@@ -109,7 +109,7 @@ const AT: [usize; 99] = [
     547,
 ];
 
-const VALUE: [u8; 99] = [
+pub const VALUE: [u8; 99] = [
     76,
     3,
     12,
@@ -211,7 +211,7 @@ const VALUE: [u8; 99] = [
     99,
 ];
 
-const AT_TOO: [usize; 99] = [
+pub const AT_TOO: [usize; 99] = [
     0,
     0,
     0,
@@ -313,7 +313,7 @@ const AT_TOO: [usize; 99] = [
     0,
 ];
 
-const VALUE_TOO: [u8; 99] = [
+pub const VALUE_TOO: [u8; 99] = [
     76,
     76,
     76,
@@ -415,7 +415,7 @@ const VALUE_TOO: [u8; 99] = [
     76,
 ];
 
-const SEALED: [u8; 99] = [
+pub const SEALED: [u8; 99] = [
     7,
     6,
     5,
@@ -517,7 +517,7 @@ const SEALED: [u8; 99] = [
     7,
 ];
 
-const LENGTHS: [usize; 13] = [
+pub const LENGTHS: [usize; 13] = [
     0,
     1,
     511,
@@ -532,87 +532,3 @@ const LENGTHS: [usize; 13] = [
     4608,
     5120,
 ];
-
-pub fn at(k: usize) -> usize {
-    if k < COUNT { AT[k] } else { 0 }
-}
-
-pub fn value(k: usize) -> u8 {
-    if k < COUNT { VALUE[k] } else { 76 }
-}
-
-pub fn at_too(k: usize) -> usize {
-    if k < COUNT { AT_TOO[k] } else { 0 }
-}
-
-pub fn value_too(k: usize) -> u8 {
-    if k < COUNT { VALUE_TOO[k] } else { 76 }
-}
-
-pub fn mask(k: usize) -> u8 {
-    if k < COUNT { SEALED[k] } else { 7 }
-}
-
-pub fn length(k: usize) -> usize {
-    if k < 13 { LENGTHS[k] } else { 0 }
-}
-
-pub fn set(file: &mut [u8; 1536], at: usize, value: u8) {
-    if at < 1536 {
-        file[at] = value;
-    }
-}
-
-// The check of block k, below 3.
-fn check_of(file: [u8; 1536], k: usize) -> u16 {
-    if k < 3 {
-        let at = 512 * k;
-        let end = at + 510;
-        return block_check::check(&file[at..end]);
-    }
-    0
-}
-
-fn put(file: &mut [u8; 1536], at: usize, n: u16) {
-    if at < 1535 {
-        file[at] = (n / 256) as u8;
-        file[at + 1] = (n % 256) as u8;
-    }
-}
-
-// The checks of the blocks in the mask made right, from a copy of the file.
-pub fn seal(file: &mut [u8; 1536], copy: [u8; 1536], mask: u8) {
-    if mask % 2 == 1 {
-        put(file, 510, check_of(copy, 0));
-    }
-    if mask / 2 % 2 == 1 {
-        put(file, 1022, check_of(copy, 1));
-    }
-    if mask / 4 % 2 == 1 {
-        put(file, 1534, check_of(copy, 2));
-    }
-}
-
-// How many bytes of the file stand at the front of a buffer, before the first that differs.
-pub fn alike(a: [u8; 5120], file: [u8; 1536]) -> usize {
-    let mut k = 0;
-    while k < 1536 {
-        if a[k] != file[k] {
-            return k;
-        }
-        k += 1;
-    }
-    k
-}
-
-// How many of the last bytes are 9.
-pub fn nines(a: [u8; 5120]) -> usize {
-    let mut k = 0;
-    while k < 5120 {
-        if a[5119 - k] != 9 {
-            return k;
-        }
-        k += 1;
-    }
-    k
-}

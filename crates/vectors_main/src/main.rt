@@ -17,6 +17,108 @@ fn print_number(n: usize) {
     io::print_decimal(OUT, n as u64);
 }
 
+// ---- the cases
+fn at(k: usize) -> usize {
+    if k < cases::COUNT { cases::AT[k] } else { 0 }
+}
+
+fn value(k: usize) -> u8 {
+    if k < cases::COUNT {
+        cases::VALUE[k]
+    } else {
+        76
+    }
+}
+
+fn at_too(k: usize) -> usize {
+    if k < cases::COUNT {
+        cases::AT_TOO[k]
+    } else {
+        0
+    }
+}
+
+fn value_too(k: usize) -> u8 {
+    if k < cases::COUNT {
+        cases::VALUE_TOO[k]
+    } else {
+        76
+    }
+}
+
+fn mask(k: usize) -> u8 {
+    if k < cases::COUNT {
+        cases::SEALED[k]
+    } else {
+        7
+    }
+}
+
+fn length(k: usize) -> usize {
+    if k < 13 { cases::LENGTHS[k] } else { 0 }
+}
+
+fn set(file: &mut [u8; 1536], at: usize, value: u8) {
+    if at < 1536 {
+        file[at] = value;
+    }
+}
+
+// The check of block k, below 3.
+fn check_of(file: [u8; 1536], k: usize) -> u16 {
+    if k < 3 {
+        let at = 512 * k;
+        let end = at + 510;
+        return block_check::check(&file[at..end]);
+    }
+    0
+}
+
+fn put(file: &mut [u8; 1536], at: usize, n: u16) {
+    if at < 1535 {
+        file[at] = (n / 256) as u8;
+        file[at + 1] = (n % 256) as u8;
+    }
+}
+
+// The checks of the blocks in the mask made right, from a copy of the file.
+fn seal(file: &mut [u8; 1536], copy: [u8; 1536], mask: u8) {
+    if mask % 2 == 1 {
+        put(file, 510, check_of(copy, 0));
+    }
+    if mask / 2 % 2 == 1 {
+        put(file, 1022, check_of(copy, 1));
+    }
+    if mask / 4 % 2 == 1 {
+        put(file, 1534, check_of(copy, 2));
+    }
+}
+
+// How many bytes of the file stand at the front of a buffer, before the first that differs.
+fn alike(a: [u8; 5120], file: [u8; 1536]) -> usize {
+    let mut k = 0;
+    while k < 1536 {
+        if a[k] != file[k] {
+            return k;
+        }
+        k += 1;
+    }
+    k
+}
+
+// How many of the last bytes are 9.
+fn nines(a: [u8; 5120]) -> usize {
+    let mut k = 0;
+    while k < 5120 {
+        if a[5119 - k] != 9 {
+            return k;
+        }
+        k += 1;
+    }
+    k
+}
+
+// ---- what is printed
 // The check of a slice, in hexadecimal.
 fn print_check(name: &[u8], bytes: &[u8]) {
     io::write_all(OUT, b"check of ");
@@ -65,15 +167,15 @@ fn whole(file: [u8; 1536]) -> Reading {
 
 // The bytes of the file with one or two of them changed, and the checks of the blocks in the mask made right.
 fn print_case(file: [u8; 1536], k: usize) {
-    let at = cases::at(k);
-    let value = cases::value(k);
-    let at_too = cases::at_too(k);
-    let value_too = cases::value_too(k);
+    let at = at(k);
+    let value = value(k);
+    let at_too = at_too(k);
+    let value_too = value_too(k);
     let mut changed = file;
-    cases::set(&mut changed, at, value);
-    cases::set(&mut changed, at_too, value_too);
+    set(&mut changed, at, value);
+    set(&mut changed, at_too, value_too);
     let copy = changed;
-    cases::seal(&mut changed, copy, cases::mask(k));
+    seal(&mut changed, copy, mask(k));
     io::write_all(OUT, b"byte ");
     print_number(at);
     io::write_all(OUT, b" = ");
@@ -109,7 +211,7 @@ fn print_length(file: [u8; 5120], n: usize) {
 fn print_lengths(file: [u8; 5120]) {
     let mut k = 0;
     while k < 13 {
-        print_length(file, cases::length(k));
+        print_length(file, length(k));
         k += 1;
     }
 }
@@ -125,9 +227,9 @@ fn print_writing(file: [u8; 1536], room: usize) {
         let start = 0;
         print_written(lane_writer::write(r.network, &mut buffer[start..room]));
         io::write_all(OUT, b"bytes as in the file, and past them as they were: ");
-        print_number(cases::alike(buffer, file));
+        print_number(alike(buffer, file));
         io::write_all(OUT, b", ");
-        print_number(cases::nines(buffer));
+        print_number(nines(buffer));
         line();
     }
 }

@@ -1,9 +1,9 @@
--- `vectors_main::cases::alike` is safe and ends.
+-- `vectors_main::alike` is safe and ends.
 -- Assumes nothing.
 use borrow.Author.Needs.{needs}
 use Prim.Native.Nat.{_≤_, _-_}
-use Rattle.vectors_main.proofs.cases.alike.Statement.{statement}
-use Rattle.vectors_main.proofs.cases.alike.Tie as tie
+use Rattle.vectors_main.proofs.alike.Statement.{statement}
+use Rattle.vectors_main.proofs.alike.Tie as tie
 
 abbrev Inv-loop : tie.InvT-loop
 Inv-loop a b k₀ k = k ≤ 1536

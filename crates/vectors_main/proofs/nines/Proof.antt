@@ -1,9 +1,9 @@
--- `vectors_main::cases::nines` is safe and ends.
+-- `vectors_main::nines` is safe and ends.
 -- Assumes nothing.
 use borrow.Author.Needs.{needs}
 use Prim.Native.Nat.{_≤_, _-_}
-use Rattle.vectors_main.proofs.cases.nines.Statement.{statement}
-use Rattle.vectors_main.proofs.cases.nines.Tie as tie
+use Rattle.vectors_main.proofs.nines.Statement.{statement}
+use Rattle.vectors_main.proofs.nines.Tie as tie
 
 abbrev Inv-loop : tie.InvT-loop
 Inv-loop a k₀ k = k ≤ 5120
