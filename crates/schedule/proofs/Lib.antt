@@ -1,0 +1,6 @@
+pub mod Ready
+pub mod Through
+pub mod Stretches
+pub mod Rule
+pub mod Rounds
+pub mod Answers

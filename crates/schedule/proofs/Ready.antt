@@ -1,0 +1,43 @@
+-- A lane and cells on which picks can be made, and that picks and reliefs leave them so.
+-- Assumes nothing.
+use mathlib.Core.Path.{_≡_, _∙_}
+use mathlib.Core.Bool.{true}
+use mathlib.Core.List.{List, [], _∷_}
+use Prim.Native.Nat.{ℕ, suc, _<_}
+use native.Mathlib.Omega.{arith}
+use lib.ListN.{length, getD}
+use Rattle.network.specs.declared.Network.{Network}
+use Rattle.lane.specs.State.{World, world}
+use Rattle.lane.specs.Sound.{soundOf}
+use Rattle.lane.specs.Pick.{pickIn, Progress, pickNext, pickAll}
+use Rattle.lane.proofs.Shape.{Shaped}
+use Rattle.lane.proofs.PickLaws.{pick-sound, pick-network, pick-cells, pick-shaped}
+use Rattle.relief.specs.Relief.{relieveOf}
+use Rattle.relief.proofs.Enlarged.{relief-kept}
+
+-- a sound lane of the network n, with its cells
+pub record Ready (n : Network) (w : World) : Type 0 where
+  pub same : w .lane .network ≡ n
+  pub long : length (w .cells) ≡ 8192
+  pub shaped : Shaped (w .lane)
+  pub sound : soundOf (w .lane) ≡ true
+
+module _ (n : Network) where
+  pub ready-pick : (p : ℕ) (w : World) → p < n .processes → Ready n w → Ready n (pickIn p w)
+  ready-pick p w h s =
+      record {
+        same = pick-network p w ∙ s .same;
+        long = pick-cells p w ∙ s .long;
+        shaped = pick-shaped p w (s .shaped);
+        sound = pick-sound p w (s .shaped) (rw (s .same) h) (s .sound);
+      }
+
+  pub ready-all : (ps : List ℕ) (g : Progress) → ((k : ℕ) → k < length ps → getD ps k 0 < n .processes) → Ready n (g .world) → Ready n (pickAll ps g .world)
+  unfolding pickNext
+  ready-all [] g h s = s
+  ready-all (p ∷ ps) g h s = ready-all ps (pickNext p g) (λ k l. h (suc k) (omega arith)) (ready-pick p (g .world) (h 0 (omega arith)) s)
+
+  pub ready-relief : (w : World) (buffer : List ℕ) → Ready n w → Ready n (world (relieveOf (w .lane) buffer .lane) (w .cells))
+  ready-relief w buffer s =
+      let k = relief-kept w buffer in
+      record { same = k .network ∙ s .same; long = k .cells ∙ s .long; shaped = k .shaped (s .shaped); sound = k .sound (s .sound) }

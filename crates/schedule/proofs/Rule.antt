@@ -1,0 +1,71 @@
+-- The rule after a round: what it gives by the moves of the round and by the answer of the relief, whatever the cells and earlier enlargements.
+-- Assumes nothing.
+use mathlib.Core.Path.{_≡_, refl, sym, ap, _∙_}
+use mathlib.Core.Bool.{Bool, true, false, cond}
+use mathlib.Core.List.{List, []}
+use Prim.Native.Nat.{ℕ, _+_, _≤_}
+use native.Mathlib.Omega.{arith}
+use borrow.Author.Tests.{eq-eqb, ne-eqb}
+use lib.Dec.{eqb}
+use lib.IntN.{ℤ}
+use lib.ListN.{replicate}
+use Rattle.network.specs.declared.Network.{Network}
+use Rattle.lane.specs.declared.Lane.{Lane}
+use Rattle.lane.specs.State.{world}
+use Rattle.relief.specs.Relief.{Told, enlarged, refused, relieveOf}
+use Rattle.schedule.specs.declared.End.{End}
+use Rattle.schedule.specs.declared.driving.Next.the-variants.{Ends, Goes}
+use Rattle.schedule.specs.Running.{Running, hasGrown, relieves}
+use Rattle.schedule.specs.Drive.{ends, goes, endOf, byRelief, nextAfter, leftAfter}
+use Rattle.schedule.specs.Parts.{roundOn, Ruled}
+use Rattle.schedule.proofs.Ready.{Ready, ready-relief}
+use Rattle.schedule.proofs.Through.{running}
+
+-- ---- by cases
+module _ (l : Lane) (moved : ℕ) where
+  -- a round with a move
+  pub ruled-moved : (moved ≡ 0 → ⊥) → Ruled l moved (record { lane = l; enlarged = 0; next = Goes })
+  ruled-moved n =
+      let b = ne-eqb moved 0 n in
+      record { next = rw b; lane = rw b; enlarged = rw b; few = omega arith }
+
+  -- one without, and the relief enlarged
+  pub ruled-grew : {l′ : Lane} {k c : ℕ} → moved ≡ 0 → enlarged k c ≡ relieveOf l (replicate 16 0) .answer → l′ ≡ relieveOf l (replicate 16 0) .lane
+      → Ruled l moved (record { lane = l′; enlarged = 1; next = Goes })
+  unfolding relieves
+  ruled-grew z a e =
+      let b = eq-eqb moved 0 z in
+      record { next = rw (b, ← a); lane = rw b e; enlarged = rw (b, ← a); few = omega arith }
+
+  -- one without, and the relief was refused
+  pub ruled-ended : {l′ : Lane} {k : ℕ} {end : End} → moved ≡ 0 → refused k ≡ relieveOf l (replicate 16 0) .answer → l′ ≡ relieveOf l (replicate 16 0) .lane
+      → ends (endOf end) ≡ byRelief (refused k) → Ruled l moved (record { lane = l′; enlarged = 0; next = Ends end })
+  unfolding relieves
+  ruled-ended z a e f =
+      let b = eq-eqb moved 0 z in
+      record { next = rw (b, ← a) f; lane = rw b e; enlarged = rw (b, ← a); few = omega arith }
+
+-- ---- in a drive
+-- the lane and cells, and the enlargements, of a round after which the rule left the lane l′ and counted so many enlargements
+module _ (l : Lane) (cells : List ℤ) (moved grown : ℕ) where
+  left-by :
+      (l′ : Lane) (b t : Bool)
+      → cond b (running (world l′ cells) moved (cond t (grown + 1) grown)) (running (world l cells) moved grown)
+      ≡ running (world (cond b (running (world l′ []) moved (cond t 1 0)) (roundOn l moved) .world .lane) cells) moved (grown + cond b (running (world l′ []) moved (cond t 1 0)) (roundOn l moved) .grown)
+  left-by l′ true true = refl
+  left-by l′ true false = ap (running (world l′ cells) moved) (omega arith)
+  left-by l′ false t = ap (running (world l cells) moved) (omega arith)
+
+  pub left-is : leftAfter (running (world l cells) moved grown) ≡ running (world (leftAfter (roundOn l moved) .world .lane) cells) moved (grown + leftAfter (roundOn l moved) .grown)
+  unfolding relieves
+  left-is = left-by (relieveOf l (replicate 16 0) .lane) (eqb moved 0) (hasGrown (relieveOf l (replicate 16 0) .answer))
+
+-- the lane stays ready for picks
+module _ (n : Network) (l : Lane) (cells : List ℤ) (moved : ℕ) where
+  ready-by : (l′ : Lane) (k : ℕ) (b : Bool) → Ready n (world l′ cells) → Ready n (world l cells) → Ready n (world (cond b (running (world l′ []) moved k) (roundOn l moved) .world .lane) cells)
+  ready-by l′ k true s t = s
+  ready-by l′ k false s t = t
+
+  pub ready-left : Ready n (world l cells) → Ready n (world (leftAfter (roundOn l moved) .world .lane) cells)
+  unfolding relieves
+  ready-left s = ready-by (relieveOf l (replicate 16 0) .lane) _ (eqb moved 0) (ready-relief n (world l cells) (replicate 16 0) s) s

@@ -1,0 +1,59 @@
+-- `schedule::driving::drive` meets its contract: the tests are made in the order of the definition, and then the rounds.
+-- Assumes nothing.
+use mathlib.Core.Path.{_≡_, refl, sym, ap, _∙_}
+use mathlib.Core.Bool.{false, not}
+use borrow.Author.Needs.{needs}
+use borrow.Author.Tests.{eq-eqb, ne-eqb, not-true, not-false}
+use Rattle.lane.specs.State.{world}
+use Rattle.lane.specs.Calls.{cellsWrong, unsound}
+use Rattle.schedule.specs.Drive.{driveOf}
+use Rattle.schedule.proofs.driving.drive.Statement.{statement}
+use Rattle.schedule.proofs.driving.drive.Tie as tie
+
+-- ---- what has passed so far
+long : (c : tie.Else1) → cellsWrong (world (c .before .args .lane) (c .before .args .cells .now)) ≡ false
+long c = ap not (eq-eqb _ 8192 (c .if1 .left))
+
+sound : (c : tie.Else2) → unsound (world (c .before .before .before .args .lane) (c .before .before .before .args .cells .now)) ≡ false
+sound c = ap not (sym (c .before .sound .ensures) ∙ not-false _ (c .if2 .left))
+
+-- ---- the needs
+refused-requires : tie.Need-refused-requires
+refused-requires c κs = search needs
+
+returns : tie.Need-returns
+unfolding driveOf
+returns c = rw (c .refused .ensures, ne-eqb _ 8192 (c .before .if1 .taken))
+
+sound-requires : tie.Need-sound-requires
+sound-requires c κs = search needs
+
+refused-requires-2 : tie.Need-refused-requires-2
+refused-requires-2 c κs = search needs
+
+returns-2 : tie.Need-returns-2
+unfolding driveOf
+returns-2 c = rw (c .refused2 .ensures, long (c .before .before .before), sym (c .before .before .sound .ensures) ∙ not-true _ (c .before .if2 .taken))
+
+rounds-requires : tie.Need-rounds-requires
+rounds-requires c κs = (long (c .before .before .before .before), sound (c .before .before), refl)
+
+same-length : tie.Need-same-length
+same-length c = search needs
+
+returns-3 : tie.Need-returns-3
+unfolding driveOf
+returns-3 c = rw (long (c .before .before .before .before .before .before), sound (c .before .before .before .before)) (c .before .rounds .ensures)
+
+pub drive-spec : {M : Type 1} → statement M
+drive-spec =
+    tie.close
+    (tie.spec
+    refused-requires
+    returns
+    sound-requires
+    refused-requires-2
+    returns-2
+    rounds-requires
+    same-length
+    returns-3)

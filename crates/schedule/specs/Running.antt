@@ -1,0 +1,45 @@
+-- Picks and reliefs one after the other, as a run and the driver make them: the lane and cells, how many picks moved, how many reliefs enlarged.
+-- Assumes nothing.
+use mathlib.Core.Bool.{Bool, true, false, cond}
+use mathlib.Core.List.{List, [], _∷_}
+use Prim.Native.Nat.{ℕ, _+_}
+use lib.ListN.{replicate}
+use Rattle.lane.specs.declared.Lane.{Lane}
+use Rattle.lane.specs.State.{World, world}
+use Rattle.lane.specs.Pick.{stepFor, pickIn, hasMoved}
+use Rattle.relief.specs.Relief.{Told, enlarged, refused, relieveOf}
+
+pub record Running : Type 0 where
+  pub world : World
+  pub moved : ℕ
+  pub grown : ℕ
+
+-- nothing made yet
+abbrev pub begun : World → Running
+begun w = record { world = w; moved = 0; grown = 0 }
+
+-- one pick of a process
+unfoldable pub picks : ℕ → Running → Running
+picks p r =
+    record {
+      world = pickIn p (r .world);
+      moved = cond (hasMoved (stepFor p (r .world) .outcome)) (r .moved + 1) (r .moved);
+      grown = r .grown;
+    }
+
+-- one relief, with room for any ring
+abbrev pub reliefIn : World → Told
+reliefIn w = relieveOf (w .lane) (replicate 16 0) .answer
+
+abbrev pub hasGrown : Told → Bool
+hasGrown (enlarged n c) = true
+hasGrown (refused n) = false
+
+-- "refusals 13 and 14 are passed over inside it"
+unfoldable pub relieves : Running → Running
+relieves r =
+    record {
+      world = world (relieveOf (r .world .lane) (replicate 16 0) .lane) (r .world .cells);
+      moved = r .moved;
+      grown = cond (hasGrown (reliefIn (r .world))) (r .grown + 1) (r .grown);
+    }
