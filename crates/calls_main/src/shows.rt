@@ -1,0 +1,97 @@
+// Answers and parts of a lane, in words.
+use crate::words;
+use base::Refusal;
+use lane::FeedAnswer;
+use lane::PickAnswer;
+use lane::Standing;
+use lane::TakeAnswer;
+use process::Channel;
+use process::Condition;
+
+pub fn print(word: [u8; 16]) {
+    let start = 0;
+    let n = words::length(word);
+    if n <= 16 {
+        io::write_all(1, &word[start..n]);
+    }
+}
+
+pub fn print_number(word: [u8; 16], n: u64) {
+    print(word);
+    io::print_decimal(1, n);
+}
+
+// A number that is not negative; 0 for one that is.
+fn whole(v: i32) -> u64 {
+    if v < 0 {
+        return 0;
+    }
+    v as u64
+}
+
+// Every bit of v turned is -1 less v.
+pub fn print_signed(word: [u8; 16], v: i32) {
+    print(word);
+    if v < 0 {
+        print_number(words::MINUS, std::num::wrapping_add_u64(whole(!v), 1));
+        return;
+    }
+    io::print_decimal(1, whole(v));
+}
+
+// ---- answers
+fn print_refusal(r: Refusal) {
+    print_number(words::REFUSED, base::number(r) as u64);
+}
+
+pub fn print_picked(answer: PickAnswer) {
+    match answer {
+        PickAnswer::Moved => print(words::MOVED),
+        PickAnswer::WaitingEmpty(c) => print_number(words::WAITING_EMPTY, c as u64),
+        PickAnswer::WaitingFull(c) => print_number(words::WAITING_FULL, c as u64),
+        PickAnswer::Ended => print(words::ENDED),
+        PickAnswer::Refused(r) => print_refusal(r),
+    }
+}
+
+pub fn print_fed(answer: FeedAnswer) {
+    match answer {
+        FeedAnswer::Accepted => print(words::ACCEPTED),
+        FeedAnswer::Refused(r) => print_refusal(r),
+    }
+}
+
+pub fn print_taken(answer: TakeAnswer) {
+    match answer {
+        TakeAnswer::Value(v) => print_signed(words::VALUE, v),
+        TakeAnswer::End => print(words::END),
+        TakeAnswer::Refused(r) => print_refusal(r),
+    }
+}
+
+// ---- parts of a lane
+fn print_condition(condition: Condition) {
+    match condition {
+        Condition::Live => print(words::LIVE),
+        Condition::Stopped => print(words::STOPPED),
+        Condition::Faulted => print(words::FAULTED),
+    }
+}
+
+pub fn print_standing(standing: Standing) {
+    let condition = standing.condition;
+    print_number(words::POSITION, standing.position as u64);
+    print_condition(condition);
+    print_number(words::MOVES, standing.moves);
+}
+
+pub fn print_channel(h: Channel) {
+    print_number(words::CAPACITY, h.capacity as u64);
+    print_number(words::OLDEST, h.oldest as u64);
+    print_number(words::HELD, h.held as u64);
+    if h.closed {
+        print(words::CLOSED);
+    } else {
+        print(words::OPEN);
+    }
+}
