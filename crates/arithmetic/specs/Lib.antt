@@ -1,3 +1,2 @@
 pub mod Wrap
 pub mod Quotient
-pub mod Examples

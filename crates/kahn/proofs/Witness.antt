@@ -16,6 +16,7 @@ use Rattle.network.specs.declared.Network.{Network}
 use Rattle.network.specs.Code.{fieldsRight, standsRight}
 use Rattle.network.specs.Rules.{senderOf, outside, slots, endsRight, records, instructionRight, codeOf, instructions, unusedSlots, unusedRecords, passes}
 use Rattle.network.proofs.Conjunction.{both-true}
+use Rattle.network.proofs.Unused.{passes-by}
 use Rattle.arithmetic.specs.Wrap.{residue, centred, wrap}
 use Rattle.process.specs.declared.Process.{Process}
 use Rattle.process.specs.declared.Condition.{Condition}
@@ -36,7 +37,7 @@ use Rattle.kahn.specs.Plain.{fromOutside, withoutCapacities, plainStart,
 use Rattle.kahn.specs.Calls.{Call, pick, feed, close, take, relieve, Reply, told, relieved, after, taken, sent, movedIn}
 use Rattle.kahn.specs.Boards.{board, Fair, AtRest, Alike, AgreeWith}
 use Rattle.kahn.specs.Theorem.{ReadAs, Determined}
-use Rattle.kahn.proofs.Tested.{alike-by, passes-by, read-by}
+use Rattle.kahn.proofs.Tested.{alike-by, read-by}
 use Rattle.kahn.proofs.Traces.{Fit, bare, replies, replies-are, moved-is, sent-is, taken-is, left-is, FairOn, fair-by, WholeOn, Rests, rest-by}
 use Rattle.kahn.proofs.Whole.{any-spare-fits}
 

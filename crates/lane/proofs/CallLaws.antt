@@ -79,8 +79,18 @@ pub record Preserves (w w′ : World) : Type 0 where
 abbrev Kept : World → Called → Type 0
 Kept w r = Preserves w (r .world)
 
-unchanged : (w : World) → Preserves w w
+pub unchanged : (w : World) → Preserves w w
 unchanged w = record { network = refl; cells = refl; shaped = λ s. s; sound = λ s. s }
+
+-- one after the other
+pub kept-then : {w w′ w″ : World} → Preserves w w′ → Preserves w′ w″ → Preserves w w″
+kept-then a b =
+    record {
+      network = b .network ∙ a .network;
+      cells = b .cells ∙ a .cells;
+      shaped = λ s. b .shaped (a .shaped s);
+      sound = λ s. b .sound (a .sound s);
+    }
 
 -- a call that is counted
 counted : (w w′ : World) → Preserves w w′ → Preserves w (counting w′)

@@ -4,7 +4,7 @@ use mathlib.Core.Path.{_≡_, refl, sym, subst}
 use mathlib.Core.Bool.{Bool, true, false, not}
 use mathlib.Core.List.{[], _∷_}
 use Prim.Native.Nat.{ℕ, _≤_, _<_}
-use borrow.Author.Tests.{ltb-true, eqb-true, eqb-false, not-false}
+use borrow.Author.Tests.{lt-ltb, ltb-true, eq-eqb, eqb-true, eqb-false, not-false}
 use native.Mathlib.Omega.{arith}
 use lib.Dec.{T, eqb, ltb}
 use lib.IntN.{ℤ}
@@ -47,6 +47,10 @@ opened-says cells l number count e =
     let b = pass-with (not (soundOf l)) Unsound _ (a .1) in
     let d = pass-with (not (ltb number count)) Absent _ (b .1) in
     record { long = eqb-true _ _ (not-false _ (a .0)); sound = not-false _ (b .0); there = ltb-true _ _ (not-false _ (d .0)) }
+
+pub says-opened : {cells : ℕ} {l : Lane} {number count : ℕ} → Opened cells l number count → opened cells l number count ≡ tested.Passed
+unfolding opened
+says-opened {cells} {l} {number} {count} o = rw (eq-eqb cells 8192 (o .long), o .sound, lt-ltb number count (o .there))
 
 decide-opened : (cells : ℕ) (l : Lane) (number count : ℕ) (w : World) (next : Called)
     → decided (opened cells l number count) w next ≡ refuse (not (eqb cells 8192)) 15 w (refuse (not (soundOf l)) 16 w (refuse (not (ltb number count)) 8 w next))

@@ -122,8 +122,8 @@ fn store(lane: Lane, cells: &mut [i32], c: usize, v: i32, gone: bool) -> Lane
     l
 }
 
-// A feed at a channel that is there, of a lane that is sound, with its cells.
-fn feed_there(lane: Lane, cells: &mut [i32], c: usize, v: i32) -> Fed
+// A feed at a channel that is there, of a lane that is sound, with its cells. Public for the bench, which has shown this once for many calls.
+pub fn feed_there(lane: Lane, cells: &mut [i32], c: usize, v: i32) -> Fed
     requires { ⌜ Opened (length (now cells)) lane c (lane .network .channels) ⌝ }
     ensures { λ r. ⌜ called (feedTold (r .answer)) (world (r .lane) (now (cells .exit))) ≡ offeredTo c (world lane (now (cells .entry))) (fed c v (world lane (now (cells .entry)))) ⌝ }
 {
@@ -152,8 +152,8 @@ pub fn feed(lane: Lane, cells: &mut [i32], c: usize, v: i32) -> Fed
     }
 }
 
-// A closing of a channel that is there, of a lane that is sound.
-fn close_there(lane: Lane, c: usize) -> Fed
+// A closing of a channel that is there, of a lane that is sound. Public for the bench, like a feed there.
+pub fn close_there(lane: Lane, c: usize) -> Fed
     requires { ⌜ c < 32 ⌝ }
     ensures { λ r. ⌜ ((cells : List ℤ) → called (feedTold (r .answer)) (world (r .lane) cells) ≡ offeredTo c (world lane cells) (closed c (world lane cells))) ⌝ }
 {
@@ -205,8 +205,8 @@ fn take_none(lane: Lane, closed: bool) -> Taken
     not_taken(lane, Refusal::Empty)
 }
 
-// A take at a channel that is there, of a lane that is sound, with its cells.
-fn take_there(lane: Lane, cells: &[i32], c: usize) -> Taken
+// A take at a channel that is there, of a lane that is sound, with its cells. Public for the bench, like a feed there.
+pub fn take_there(lane: Lane, cells: &[i32], c: usize) -> Taken
     requires { ⌜ Opened (length (now cells)) lane c (lane .network .channels) ⌝ }
     ensures { λ r. ⌜ called (takeTold (r .answer)) (world (r .lane) (now (cells .entry))) ≡ refuse (receiverInside c (world lane (now (cells .entry)))) 9 (world lane (now (cells .entry))) (taken c (world lane (now (cells .entry)))) ⌝ }
 {

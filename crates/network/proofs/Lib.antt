@@ -1,3 +1,4 @@
 pub mod Conjunction
 pub mod Slot
 pub mod Passed
+pub mod Unused

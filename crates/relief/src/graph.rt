@@ -1,12 +1,16 @@
 // Who waits for whom: for each process of a sound lane the process that it points to, and its full wait.
+use crate::Foreseen;
 use crate::Wait;
 use crate::Waits;
 use lane::Lane;
 use process::Outcome;
 ghost use mathlib.Core.Path.{_≡_};
 ghost use mathlib.Core.Bool.{true};
+ghost use mathlib.Core.List.{[]};
 ghost use Prim.Native.Nat.{ℕ, _<_};
+ghost use Rattle.lane.specs.State.{world};
 ghost use Rattle.lane.specs.Sound.{soundOf};
+ghost use Rattle.lane.specs.Pick.{channelIn, instructionFor, stepFor};
 ghost use Rattle.relief.specs.Waits.{pointing, fullWait, waitsAt};
 ghost use Rattle.relief.specs.Parts.{waitFrom, pointsIn, numberIn};
 
@@ -37,10 +41,10 @@ fn wait_in(outcome: Outcome, c: u8, sender: u8, receiver: u8, capacity: u16) -> 
     }
 }
 
-// What process p would wait for if picked. Whether it waits does not hang on the message, so any will do.
-fn wait_of(lane: Lane, p: usize) -> Wait
+// What process p would do if picked, and at which channel, without a message: whether it waits does not hang on one. Public for the bench.
+pub fn foresee(lane: Lane, p: usize) -> Foreseen
     requires { ⌜ (soundOf lane ≡ true) × (p < lane .network .processes) ⌝ }
-    ensures { λ r. ⌜ (r .points ≡ pointing lane p) × (r .full ≡ fullWait lane p) × (r .channel ≡ waitsAt lane p) ⌝ }
+    ensures { λ r. ⌜ (r .outcome ≡ stepFor p (world lane []) .outcome) × (r .channel ≡ channelIn (instructionFor p lane)) ⌝ }
 {
     let net = lane.network;
     let standing = lane.processes[p];
@@ -49,13 +53,27 @@ fn wait_of(lane: Lane, p: usize) -> Wait
     let process = lane_picks::join(lane_picks::window(&lane.registers, p), standing);
     let c = lane_picks::channel_of(instruction);
     let h = lane.channels[c];
-    let sender = net.sender[c];
-    let receiver = net.receiver[c];
-    let e = lane_picks::end(receiver);
+    let e = lane_picks::end(net.receiver[c]);
     let gone = lane_sound::ended_if(e, lane.processes[e % 16]);
     let stepped = process::step(instruction, process, h, 0, gone);
     let outcome = stepped.outcome;
-    wait_in(outcome, c as u8, sender, receiver, h.capacity)
+    Foreseen {
+        outcome,
+        channel: c,
+    }
+}
+
+// What process p would wait for if picked.
+fn wait_of(lane: Lane, p: usize) -> Wait
+    requires { ⌜ (soundOf lane ≡ true) × (p < lane .network .processes) ⌝ }
+    ensures { λ r. ⌜ (r .points ≡ pointing lane p) × (r .full ≡ fullWait lane p) × (r .channel ≡ waitsAt lane p) ⌝ }
+{
+    let net = lane.network;
+    let seen = foresee(lane, p);
+    let c = seen.channel;
+    let outcome = seen.outcome;
+    let h = lane.channels[c];
+    wait_in(outcome, c as u8, net.sender[c], net.receiver[c], h.capacity)
 }
 
 // The waits of all processes. Public for the crate's root, which has shown that the lane is sound.

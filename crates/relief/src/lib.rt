@@ -3,7 +3,9 @@ mod graph;
 mod search;
 
 use base::Refusal;
+pub use graph::foresee;
 use lane::Lane;
+use process::Outcome;
 ghost use mathlib.Core.Path.{_≡_};
 ghost use mathlib.Core.List.{_++_};
 ghost use Prim.Native.Nat.{_≤_, _<_};
@@ -20,6 +22,12 @@ pub enum ReliefAnswer {
 pub struct Relieved {
     pub lane: Lane,
     pub answer: ReliefAnswer,
+}
+
+// What a pick of a process would do, and at which channel.
+pub struct Foreseen {
+    pub outcome: Outcome,
+    pub channel: usize,
 }
 
 // What a process waits for: the process that it points to, 255 for none; the capacity of the channel of a full wait, 0 for

@@ -7,6 +7,7 @@ pub use driving::drive;
 use lane::Lane;
 use relief::Relieved;
 pub use running::run;
+pub use running::unnamed;
 ghost use mathlib.Core.Path.{_≡_};
 ghost use lib.ListN.{replicate};
 ghost use Rattle.relief.specs.Relief.{told, relieveOf};
@@ -38,8 +39,8 @@ pub struct DriveResult {
     pub answer: DriveAnswer,
 }
 
-// A relief with a ring buffer of its own, which has room for any ring.
-fn relieve(lane: Lane) -> Relieved
+// A relief with a ring buffer of its own, which has room for any ring. Public for the bench.
+pub fn relieve(lane: Lane) -> Relieved
     ensures { λ r. ⌜ (told (r .answer) ≡ relieveOf lane (replicate 16 0) .answer) × (r .lane ≡ relieveOf lane (replicate 16 0) .lane) ⌝ }
 {
     let mut ring = [0u8; 16];

@@ -31,8 +31,8 @@ fn names(byte: u8, processes: usize) -> bool
     wide(byte) < processes || byte == 255
 }
 
-// The first byte that names no process.
-fn unnamed(picks: &[u8], processes: usize) -> Verdict
+// The first byte that names no process. Public for the bench, which makes the same test.
+pub fn unnamed(picks: &[u8], processes: usize) -> Verdict
     ensures { λ r. ⌜ r ≡ firstBad (named (now (picks .entry)) processes) 0 (length (now (picks .entry))) ⌝ }
 {
     let mut k = 0;

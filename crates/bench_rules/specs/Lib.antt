@@ -1,0 +1,5 @@
+pub mod Printed
+pub mod Input
+pub mod Feeding
+pub mod Emptying
+pub mod Playing

@@ -1,0 +1,17 @@
+-- `bench_takes::mark` meets its contract.
+-- Assumes nothing.
+use borrow.Author.Needs.{needs}
+use Rattle.bench_takes.proofs.mark.Statement.{statement}
+use Rattle.bench_takes.proofs.mark.Tie as tie
+
+array-write-marked : tie.Need-array-write-marked
+array-write-marked c = search needs
+
+returns : tie.Need-returns
+returns c = rw (c .if1 .taken)
+
+returns-2 : tie.Need-returns-2
+returns-2 c = rw (c .if1 .left)
+
+pub mark-spec : {M : Type 1} → statement M
+mark-spec = tie.close (tie.spec array-write-marked returns returns-2)

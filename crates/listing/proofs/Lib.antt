@@ -1,0 +1,5 @@
+pub mod Decimal
+pub mod Laws
+pub mod Lengths
+pub mod Lines
+pub mod Signs
