@@ -50,9 +50,9 @@ givesAt c o =
     eqb (receiverOf (o .world .lane .network) c) outside && not (getD (o .given) c false)
     && (ltb 0 (channelOf (o .world .lane) c .held) || channelOf (o .world .lane) c .closed)
 
-parts : (a b : Bool) → (a || b) ≡ false → (a ≡ false) × (b ≡ false)
-parts true b e = absurd (true≢false e)
-parts false b e = (refl, e)
+pub neither : (a b : Bool) → (a || b) ≡ false → (a ≡ false) × (b ≡ false)
+neither true b e = absurd (true≢false e)
+neither false b e = (refl, e)
 
 module _ (c : ℕ) (o : Outputs) where
   abbrev all : Printed Outputs
@@ -64,7 +64,7 @@ module _ (c : ℕ) (o : Outputs) where
   -- nothing held and open: one take, which gives nothing
   none-taken : some ≡ false → all ≡ silent o
   none-taken e =
-      let s = parts (ltb 0 (channelOf (o .world .lane) c .held)) _ e in
+      let s = neither (ltb 0 (channelOf (o .world .lane) c .held)) _ e in
       let h : channelOf (o .world .lane) c .held ≡ 0 = omega (arith, ltb-false 0 (channelOf (o .world .lane) c .held) (s .0)) in
       ap (λ (k : ℕ). takesAt c (suc k) o) h ∙ ap (λ (r : Printed Outputs). thenDo r silent) (nothing-taken c o h (s .1))
 

@@ -1,5 +1,7 @@
-// What is measured: the block check, reading a file, the soundness test and the bench, each many times on the largest lane. An argument names one of them,
-// `check`, `read`, `sound` or `bench`, by its first letter, for a count of its instructions; without one all are made. Prints what they answered.
+// What is measured: the block check, reading a file and the soundness test on the largest lane, and a bench of 3,000 pick bytes, each many times. An
+// argument names one of them, `check`, `read`, `sound` or `bench`, by its first letter, for a count of its instructions; without one all are made.
+// Prints what they answered.
+use bench::BenchAnswer;
 use lane::Lane;
 use lane_file::Answer;
 
@@ -52,6 +54,38 @@ fn sounds(lane: Lane) -> u64 {
     count
 }
 
+// The length of a listing, 0 of a refusal.
+fn length_of(answer: BenchAnswer) -> u64 {
+    match answer {
+        BenchAnswer::Listed(length) => length as u64,
+        BenchAnswer::Refused(_) => 0,
+    }
+}
+
+// The lengths of 10 listings in all.
+fn benches(file: &[u8], input: &[u8], picks: &[u8], listing: &mut [u8]) -> u64 {
+    let mut sum: u64 = 0;
+    let mut k: u8 = 0;
+    while k < 10 {
+        let length = length_of(bench::bench(file, input, picks, listing));
+        sum = std::num::wrapping_add_u64(sum, length);
+        k += 1;
+    }
+    sum
+}
+
+// A bench on its three files.
+fn play() -> u64 {
+    let mut file = [0u8; 1024];
+    io::read_full(os::open_read(b"net.bin"), &mut file);
+    let mut input = [0u8; 5000];
+    io::read_full(os::open_read(b"in.bin"), &mut input);
+    let mut picks = [0u8; 3000];
+    io::read_full(os::open_read(b"picks.bin"), &mut picks);
+    let mut listing = [0u8; 65536];
+    benches(&file, &input, &picks, &mut listing)
+}
+
 fn print(name: &[u8], number: u64) {
     io::write_all(OUT, name);
     io::write_all(OUT, b" ");
@@ -64,7 +98,7 @@ fn main() {
     os::arg(1, &mut word);
     let what = word[0];
     let mut file = [0u8; 4608];
-    io::read_full(os::open_read(b"net.bin"), &mut file);
+    io::read_full(os::open_read(b"largest.bin"), &mut file);
     let reading = lane_reader::read(&file);
     if what == 0 || what == 99 {
         print(b"check", checks(file));
@@ -75,5 +109,8 @@ fn main() {
     if what == 0 || what == 115 {
         let net = reading.network;
         print(b"sound", sounds(lane_sound::fresh(net)));
+    }
+    if what == 0 || what == 98 {
+        print(b"bench", play());
     }
 }

@@ -12,6 +12,7 @@ use Rattle.lane.specs.Sound.{soundOf}
 use Rattle.lane.specs.Pick.{pickIn, Progress, pickNext, pickAll}
 use Rattle.lane.proofs.Shape.{Shaped}
 use Rattle.lane.proofs.PickLaws.{pick-sound, pick-network, pick-cells, pick-shaped}
+use Rattle.lane.proofs.CallLaws.{Preserves}
 use Rattle.relief.specs.Relief.{relieveOf}
 use Rattle.relief.proofs.Enlarged.{relief-kept}
 
@@ -37,7 +38,10 @@ module _ (n : Network) where
   ready-all [] g h s = s
   ready-all (p ∷ ps) g h s = ready-all ps (pickNext p g) (λ k l. h (suc k) (omega arith)) (ready-pick p (g .world) (h 0 (omega arith)) s)
 
-  pub ready-relief : (w : World) (buffer : List ℕ) → Ready n w → Ready n (world (relieveOf (w .lane) buffer .lane) (w .cells))
-  ready-relief w buffer s =
-      let k = relief-kept w buffer in
+  -- what keeps a lane and its cells as the calls do
+  pub ready-kept : (w w′ : World) → Preserves w w′ → Ready n w → Ready n w′
+  ready-kept w w′ k s =
       record { same = k .network ∙ s .same; long = k .cells ∙ s .long; shaped = k .shaped (s .shaped); sound = k .sound (s .sound) }
+
+  pub ready-relief : (w : World) (buffer : List ℕ) → Ready n w → Ready n (world (relieveOf (w .lane) buffer .lane) (w .cells))
+  ready-relief w buffer = ready-kept w _ (relief-kept w buffer)

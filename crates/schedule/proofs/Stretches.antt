@@ -76,7 +76,7 @@ relief-runs : (bytes : List ℕ) (e : ℕ) (r : Running) → e < length bytes �
 relief-runs bytes e r h f = rw (add-one e, drop-cons bytes e 0 h) (ap (bytesRun (drop (suc e) bytes)) (byte-relief (getD bytes e 0) r f))
 
 -- ---- what the tests before the first pick say of each byte
-one-of : (a b : Bool) → (a || b) ≡ true → b ≡ false → a ≡ true
+pub one-of : (a b : Bool) → (a || b) ≡ true → b ≡ false → a ≡ true
 one-of true b e f = refl
 one-of false b e f = sym f ∙ e
 

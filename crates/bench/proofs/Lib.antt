@@ -1,0 +1,3 @@
+pub mod Kept
+pub mod Stages
+pub mod Short

@@ -1,0 +1,68 @@
+-- `bench::play` meets its contract: the tests are made in the order of the definition, and then the listing.
+-- Assumes nothing.
+use mathlib.Core.Path.{_≡_, sym, ap, _∙_}
+use mathlib.Core.Bool.{false, not}
+use borrow.Author.Needs.{needs}
+use Rattle.base.specs.Tests.{isGood}
+use Rattle.bench.specs.Bench.{inputWrong, picksWrong}
+use Rattle.bench.proofs.play.Statement.{statement}
+use Rattle.bench.proofs.play.Tie as tie
+
+-- ---- what has passed so far
+right : (c : tie.Else1)
+    → inputWrong (c .before .before .before .before .before .args .net) (c .before .before .before .before .before .args .input .now) (c .before .before .before .before .before .args .picks .now) ≡ false
+right c = sym (c .before .input-wrong .ensures) ∙ c .if1 .left
+
+abbrev else-of : tie.After-enum-told → tie.Else1
+else-of c = c .before .before .before
+
+all-named : (c : tie.After-enum-told) → picksWrong (else-of c .before .before .before .before .before .args .net) (else-of c .before .before .before .before .before .args .picks .now) ≡ false
+all-named c = ap (λ v. not (isGood v)) (sym (c .before .before .unnamed .ensures) ∙ c .enum-told .given .1)
+
+-- ---- the needs
+input-wrong-requires : tie.Need-input-wrong-requires
+input-wrong-requires c κs = search needs
+
+returns : tie.Need-returns
+returns c = rw (sym (c .before .input-wrong .ensures) ∙ c .if1 .taken)
+
+unnamed-requires : tie.Need-unnamed-requires
+unnamed-requires c κs = search needs
+
+enum-told : tie.Need-enum-told
+enum-told c = search needs
+
+enum-told-2 : tie.Need-enum-told-2
+enum-told-2 c = search needs
+
+returns-2 : tie.Need-returns-2
+returns-2 c = rw (right (c .before .before .before), sym (c .before .before .unnamed .ensures) ∙ c .enum-told2 .given .1)
+
+list-requires : tie.Need-list-requires
+list-requires c κs =
+    let e = else-of (c .before) in
+    let s = e .before .before .before .before .before in
+    (s .pre .0, right e, all-named (c .before), s .pre .1)
+
+same-length : tie.Need-same-length
+same-length c = search needs
+
+returns-3 : tie.Need-returns-3
+returns-3 c =
+    let l = c .before .before in
+    let t = l .before .before in
+    rw (right (else-of t), all-named t, l .list .ensures .0, l .list .ensures .1)
+
+pub play-spec : {M : Type 1} → statement M
+play-spec =
+    tie.close
+    (tie.spec
+    input-wrong-requires
+    returns
+    unnamed-requires
+    enum-told
+    enum-told-2
+    returns-2
+    list-requires
+    same-length
+    returns-3)

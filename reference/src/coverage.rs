@@ -1,0 +1,169 @@
+//! What a comparison has met, so that one sees what it is worth.
+
+use crate::bench::Watch;
+use crate::calls::Answer;
+use crate::lane::Lane;
+use crate::network::{Instruction, CAPACITY};
+use crate::refusal::Refusal;
+use crate::relief::Ring;
+use std::fmt;
+
+/// Counts over all cases.
+#[derive(Default)]
+pub struct Coverage {
+    cases: u64,
+    /// Refused cases, by number.
+    refused: [u64; 18],
+    /// Cases whose listing has such a line, and how many such lines there were.
+    lines: [(u64, u64); 3],
+    /// The same for the conditions in `proc` lines.
+    conditions: [(u64, u64); 5],
+    /// Instructions that moved, by number.
+    moved: [u64; 14],
+    answers: [u64; 4],
+    /// Moves and reliefs of a kind worth a look.
+    special: [u64; SPECIAL.len()],
+    /// The instruction being picked, and which special kinds it would be.
+    now: Option<(Instruction, [bool; SPECIAL.len()])>,
+}
+
+const LINES: [&str; 3] = ["out ", "end ", "grow "];
+const CONDITIONS: [&str; 5] = ["stop", "fault", "empty", "full", "run"];
+const ANSWERS: [&str; 4] = ["moved", "waiting-empty", "waiting-full", "ended"];
+const SPECIAL: [&str; 12] = [
+    "the end received",
+    "sent to an ended receiver",
+    "fault at a zero divisor",
+    "fault at a 12",
+    "fault at a 13",
+    "the least number by -1",
+    "laid past place 255",
+    "relief enlarged",
+    "of these in a ring of one",
+    "of these in a ring of three or more",
+    "relief: 13",
+    "relief: 14",
+];
+
+impl Coverage {
+    /// Counts one case and its answer.
+    pub fn count(&mut self, answer: Result<&[u8], Refusal>) {
+        self.cases += 1;
+        let listing = match answer {
+            Ok(listing) => std::str::from_utf8(listing).unwrap_or(""),
+            Err(refusal) => {
+                self.refused[usize::from(refusal.number())] += 1;
+                return;
+            }
+        };
+        let mut lines = [0; LINES.len()];
+        let mut conditions = [0; CONDITIONS.len()];
+        for line in listing.lines() {
+            for (count, start) in lines.iter_mut().zip(LINES) {
+                *count += u64::from(line.starts_with(start));
+            }
+            if line.starts_with("proc ") {
+                let condition = line.split(' ').nth(2);
+                for (count, name) in conditions.iter_mut().zip(CONDITIONS) {
+                    *count += u64::from(condition == Some(name));
+                }
+            }
+        }
+        for (total, count) in self.lines.iter_mut().zip(lines) {
+            *total = (total.0 + count.min(1), total.1 + count);
+        }
+        for (total, count) in self.conditions.iter_mut().zip(conditions) {
+            *total = (total.0 + count.min(1), total.1 + count);
+        }
+    }
+}
+
+impl Watch for Coverage {
+    fn picking(&mut self, lane: &Lane, process: usize) {
+        let instruction = lane.instruction(process);
+        let Instruction { op, b, c, .. } = instruction;
+        let register = |number: u8| lane.processes[process].registers[usize::from(number)];
+        let channel = || lane.channels[usize::from(b)];
+        let mut special = [false; SPECIAL.len()];
+        match op {
+            6 | 7 => {
+                special[2] = register(c) == 0;
+                special[5] = register(b) == i32::MIN && register(c) == -1;
+            }
+            11 => special[0] = channel().held == 0 && channel().closed,
+            12 => {
+                special[1] = !channel().closed && lane.is_unheard(b);
+                special[3] = channel().closed;
+                special[6] = !channel().closed
+                    && !lane.is_unheard(b)
+                    && channel().oldest + channel().held >= CAPACITY;
+            }
+            13 => special[4] = channel().closed,
+            _ => {}
+        }
+        self.now = Some((instruction, special));
+    }
+
+    fn picked(&mut self, answer: Answer) {
+        let kind = match answer {
+            Answer::Moved => 0,
+            Answer::WaitingEmpty(_) => 1,
+            Answer::WaitingFull(_) => 2,
+            Answer::Ended => 3,
+        };
+        self.answers[kind] += 1;
+        if let (0, Some((instruction, special))) = (kind, self.now.take()) {
+            self.moved[usize::from(instruction.op)] += 1;
+            for (count, met) in self.special.iter_mut().zip(special) {
+                *count += u64::from(met);
+            }
+        }
+    }
+
+    fn relieved(&mut self, answer: Result<Ring, Refusal>) {
+        match answer {
+            Ok(ring) => {
+                self.special[7] += 1;
+                self.special[8] += u64::from(ring.members().len() == 1);
+                self.special[9] += u64::from(ring.members().len() > 2);
+            }
+            Err(Refusal::Ceiling) => self.special[11] += 1,
+            Err(_) => self.special[10] += 1,
+        }
+    }
+}
+
+impl fmt::Display for Coverage {
+    fn fmt(&self, to: &mut fmt::Formatter) -> fmt::Result {
+        let refused: u64 = self.refused.iter().sum();
+        writeln!(
+            to,
+            "{} lanes, {} with a listing, {refused} refused",
+            self.cases,
+            self.cases - refused
+        )?;
+        write!(to, "refused with")?;
+        for (number, count) in self.refused.iter().enumerate().filter(|(_, &count)| count > 0) {
+            write!(to, "  {number}: {count}")?;
+        }
+        write!(to, "\nlanes (lines) with")?;
+        for (name, (lanes, lines)) in LINES.iter().zip(self.lines) {
+            write!(to, "  {}: {lanes} ({lines})", name.trim())?;
+        }
+        for (name, (lanes, lines)) in CONDITIONS.iter().zip(self.conditions) {
+            write!(to, "  {name}: {lanes} ({lines})")?;
+        }
+        write!(to, "\ninstructions that moved")?;
+        for (number, count) in self.moved.iter().enumerate() {
+            write!(to, "  {number}: {count}")?;
+        }
+        write!(to, "\npicks")?;
+        for (name, count) in ANSWERS.iter().zip(self.answers) {
+            write!(to, "  {name}: {count}")?;
+        }
+        for (name, count) in SPECIAL.iter().zip(self.special) {
+            write!(to, "\n{name}: {count}")?;
+        }
+        writeln!(to)
+    }
+}

@@ -1,0 +1,39 @@
+//! A second implementation of the lane run-time, written from the scope
+//! document alone. It exists to be compared with the first one, and to say how
+//! many instructions the same work takes in ordinary Rust.
+//!
+//! | module     | what it holds                                              |
+//! |------------|------------------------------------------------------------|
+//! | `refusal`  | the refusal table                                          |
+//! | `check`    | the check of a block                                       |
+//! | `network`  | processes, channels and code, and the rules they must meet |
+//! | `file`     | reading and writing lane files                             |
+//! | `lane`     | a network with its state, and what makes it sound          |
+//! | `calls`    | pick, feed, close and take                                 |
+//! | `relief`   | rings of waiting processes                                 |
+//! | `schedule` | a run and the driver                                       |
+//! | `bench`    | the bench and its listing                                  |
+//! | `plain`    | the plain order, with channels that never fill             |
+//! | `random`   | random numbers that can be repeated                        |
+//! | `plans`    | random networks                                            |
+//! | `programs` | random programs for their processes                        |
+//! | `gen`      | random cases for the bench                                 |
+//! | `damage`   | damaged files, inputs and picks                            |
+//! | `coverage` | what a comparison has met                                  |
+
+pub mod bench;
+pub mod calls;
+pub mod check;
+pub mod coverage;
+pub mod damage;
+pub mod file;
+pub mod gen;
+pub mod lane;
+pub mod network;
+pub mod plain;
+pub mod plans;
+pub mod programs;
+pub mod random;
+pub mod refusal;
+pub mod relief;
+pub mod schedule;
