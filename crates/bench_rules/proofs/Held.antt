@@ -16,7 +16,7 @@ use Rattle.network.specs.declared.Network.{Network}
 use Rattle.network.specs.Rules.{senderOf, receiverOf, capacityOf, outside, endRight, endsRight, receives, sends, recordRight, records, passes}
 use Rattle.network.proofs.Conjunction.{both-true}
 use Rattle.network.proofs.Passed.{passed}
-use Rattle.process.specs.declared.Process.{Process}
+use Rattle.process.specs.Process.{Process}
 use Rattle.process.specs.declared.Channel.{Channel}
 use Rattle.process.specs.declared.Outcome.the-variants.{Moved, Halted, WaitEmpty, WaitFull}
 use Rattle.process.specs.Channels.{noChannel, putOne, getOne, closeOne, enlargeOne, dropOne, slot}

@@ -13,7 +13,7 @@ use Rattle.process.specs.declared.Channel.{Channel}
 use Rattle.process.specs.declared.Condition.{Condition}
 use Rattle.process.specs.declared.Condition.the-variants.{Live, Faulted}
 use Rattle.process.specs.declared.Outcome.the-variants.{Moved}
-use Rattle.process.specs.declared.Stepped.{Stepped}
+use Rattle.process.specs.Process.{Stepped}
 use Rattle.process.specs.Channels.{noChannel}
 use Rattle.process.specs.Execute.{outcome, stepOf}
 use Rattle.lane.specs.State.{world}

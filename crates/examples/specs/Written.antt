@@ -9,7 +9,7 @@ use lib.IntN.{ℤ, pos, _-ℤ_}
 use Rattle.network.specs.declared.Instruction.{Instruction}
 use Rattle.network.specs.declared.Network.{Network}
 use Rattle.process.specs.declared.Condition.{Condition}
-use Rattle.process.specs.declared.Process.{Process}
+use Rattle.process.specs.Process.{Process}
 use Rattle.process.specs.declared.Channel.{Channel}
 use Rattle.process.specs.Channels.{noChannel}
 use Rattle.lane.specs.declared.Lane.{Lane}

@@ -20,7 +20,7 @@ use Rattle.arithmetic.specs.declared.Divided.the-variants.{By, Zero}
 use Rattle.arithmetic.specs.Quotient.{quotientOf, remainderOf}
 use Rattle.process.specs.declared.Condition.{Condition}
 use Rattle.process.specs.declared.Condition.the-variants.{Live, Stopped, Faulted}
-use Rattle.process.specs.declared.Process.{Process}
+use Rattle.process.specs.Process.{Process}
 use Rattle.process.specs.Intent.{Intent, idle, inner, receive, send, close, halt}
 use Rattle.process.specs.Want.{registerOf, onward, assigned, jumped, divided, branched, isNull, isNegative, wantLive, wantIn, want}
 use Rattle.lane.specs.State.{isEnded}

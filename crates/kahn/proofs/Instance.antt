@@ -19,7 +19,7 @@ use Rattle.network.specs.Code.{fieldsRight, standsRight, mayBeLast}
 use Rattle.network.specs.Rules.{startOf, countOf, endOf, receives, sends, instructionOf, instructionRight, instructions, passes}
 use Rattle.network.proofs.Conjunction.{both-true}
 use Rattle.network.proofs.Passed.{passed}
-use Rattle.process.specs.declared.Process.{Process}
+use Rattle.process.specs.Process.{Process}
 use Rattle.process.specs.Intent.{Intent, idle}
 use Rattle.process.specs.Want.{want}
 use Rattle.lane.specs.declared.Standing.{Standing}

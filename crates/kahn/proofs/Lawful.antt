@@ -9,7 +9,7 @@ use lib.Dec.{eqb, ltb}
 use lib.IntN.{ℤ}
 use Rattle.network.specs.declared.Network.{Network}
 use Rattle.network.specs.Rules.{senderOf, passes}
-use Rattle.process.specs.declared.Process.{Process}
+use Rattle.process.specs.Process.{Process}
 use Rattle.lane.specs.State.{World}
 use Rattle.lane.specs.Calls.{Called}
 use Rattle.lane.proofs.CallCases.{feed-cases, close-cases}

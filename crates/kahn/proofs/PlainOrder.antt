@@ -15,7 +15,7 @@ use lib.ListN.{length, getD, getElem?}
 use Rattle.network.specs.declared.Network.{Network}
 use Rattle.network.specs.Rules.{senderOf, passes}
 use Rattle.network.proofs.Passed.{passed}
-use Rattle.process.specs.declared.Process.{Process}
+use Rattle.process.specs.Process.{Process}
 use Rattle.process.specs.Intent.{Intent, idle, inner, receive, send, close, halt}
 use Rattle.lane.specs.State.{standsAt}
 use Rattle.kahn.specs.Plain.{Plain, withoutCapacities, newProcess, plainStart, becomes, receives, sends, closes, ends, intentOf, resolve, plainStep, turns, plainAfter}

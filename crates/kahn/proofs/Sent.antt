@@ -13,7 +13,7 @@ use lib.ListN.{getElem?}
 use Rattle.network.specs.declared.Network.{Network}
 use Rattle.network.specs.Rules.{passes}
 use Rattle.network.proofs.Passed.{passed}
-use Rattle.process.specs.declared.Process.{Process}
+use Rattle.process.specs.Process.{Process}
 use Rattle.process.specs.declared.Outcome.{Outcome}
 use Rattle.process.specs.declared.Outcome.the-variants.{Moved, Sent, Halted, WaitEmpty, WaitFull, Ended}
 use Rattle.process.specs.Intent.{Intent, idle, inner, receive, send, close, halt}

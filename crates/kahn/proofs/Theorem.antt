@@ -16,7 +16,7 @@ use Rattle.base.proofs.Lists.{length-values, table-at}
 use Rattle.network.specs.declared.Network.{Network}
 use Rattle.network.specs.Rules.{receiverOf, passes}
 use Rattle.network.proofs.Conjunction.{both-true}
-use Rattle.process.specs.declared.Process.{Process}
+use Rattle.process.specs.Process.{Process}
 use Rattle.process.specs.declared.Channel.{Channel}
 use Rattle.process.specs.declared.Outcome.{Outcome}
 use Rattle.process.specs.declared.Outcome.the-variants.{Moved, Sent, Halted, WaitEmpty, WaitFull, Ended}

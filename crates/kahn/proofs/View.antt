@@ -16,11 +16,10 @@ use Rattle.network.specs.declared.Network.{Network}
 use Rattle.network.specs.declared.Instruction.{Instruction}
 use Rattle.network.specs.Rules.{senderOf, receiverOf, passes}
 use Rattle.network.proofs.Passed.{passed}
-use Rattle.process.specs.declared.Process.{Process}
+use Rattle.process.specs.Process.{Process, Stepped}
 use Rattle.process.specs.declared.Channel.{Channel}
 use Rattle.process.specs.declared.Outcome.{Outcome}
 use Rattle.process.specs.declared.Outcome.the-variants.{Moved, Sent, Halted, WaitEmpty, WaitFull, Ended}
-use Rattle.process.specs.declared.Stepped.{Stepped}
 use Rattle.process.specs.Channels.{noChannel, putOne, getOne, closeOne, slot}
 use Rattle.process.specs.Execute.{outcome, accept, execute, stepOf}
 use Rattle.process.specs.Execute as small

@@ -18,7 +18,7 @@ use Rattle.network.specs.Rules.{senderOf, outside, slots, endsRight, records, i
 use Rattle.network.proofs.Conjunction.{both-true}
 use Rattle.network.proofs.Unused.{passes-by}
 use Rattle.arithmetic.specs.Wrap.{residue, centred, wrap}
-use Rattle.process.specs.declared.Process.{Process}
+use Rattle.process.specs.Process.{Process}
 use Rattle.process.specs.declared.Condition.{Condition}
 use Rattle.process.specs.declared.Condition.the-variants.{Live, Stopped, Faulted}
 use Rattle.process.specs.Want.{wantLive, want}

@@ -6,7 +6,7 @@ use mathlib.Core.List.{List, [], _∷_, _++_}
 use Prim.Native.Nat.{ℕ, _+_}
 use lib.Dec.{eqb}
 use lib.IntN.{ℤ}
-use Rattle.process.specs.declared.Process.{Process}
+use Rattle.process.specs.Process.{Process}
 use Rattle.process.specs.Want.{registerOf}
 use Rattle.lane.specs.State.{World, world, processOf, channelOf}
 use Rattle.lane.specs.Pick.{instructionFor}

@@ -8,7 +8,7 @@ use lib.ListN.{length, getD, replicate}
 use lib.IntN.{ℤ, pos}
 use Rattle.network.specs.declared.Network.{Network}
 use Rattle.network.specs.Rules.{senderOf, outside}
-use Rattle.process.specs.declared.Process.{Process}
+use Rattle.process.specs.Process.{Process}
 use Rattle.process.specs.declared.Condition.the-variants.{Live}
 use Rattle.process.specs.Intent.{Intent, idle, inner, receive, send, close, halt}
 use Rattle.process.specs.Want.{want}

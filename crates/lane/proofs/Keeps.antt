@@ -12,7 +12,7 @@ use lib.ListN.{length, getD, set}
 use Rattle.network.specs.declared.Network.{Network}
 use Rattle.network.specs.Rules.{countOf, senderOf, receiverOf, receives, sends}
 use Rattle.network.proofs.Passed.{passed}
-use Rattle.process.specs.declared.Process.{Process}
+use Rattle.process.specs.Process.{Process}
 use Rattle.process.specs.declared.Channel.{Channel}
 use Rattle.process.specs.Channels.{noChannel, putOne, getOne, closeOne, dropOne}
 use Rattle.lane.specs.declared.Standing.{Standing}

@@ -13,11 +13,10 @@ use lib.Seq.{set-getD, getD-set-other}
 use Rattle.network.specs.declared.Instruction.{Instruction}
 use Rattle.network.specs.declared.Network.{Network}
 use Rattle.network.specs.Rules.{countOf, senderOf, receiverOf, receives, sends}
-use Rattle.process.specs.declared.Process.{Process}
+use Rattle.process.specs.Process.{Process, Stepped}
 use Rattle.process.specs.declared.Channel.{Channel}
 use Rattle.process.specs.declared.Outcome.{Outcome}
 use Rattle.process.specs.declared.Outcome.the-variants.{Moved, Sent, Halted, WaitEmpty, WaitFull, Ended}
-use Rattle.process.specs.declared.Stepped.{Stepped}
 use Rattle.process.specs.Channels.{noChannel, putOne, getOne, closeOne, slot}
 use Rattle.process.specs.Execute.{outcome}
 use Rattle.process.proofs.StepLaws.{waits, halts, step-place, step-condition, step-still}

@@ -5,7 +5,7 @@ use mathlib.Core.List.{List, [], _∷_}
 use Prim.Native.Nat.{ℕ, suc}
 use lib.ListN.{length, length-set}
 use Rattle.network.specs.declared.Network.{Network}
-use Rattle.process.specs.declared.Process.{Process}
+use Rattle.process.specs.Process.{Process}
 use Rattle.process.specs.declared.Channel.{Channel}
 use Rattle.lane.specs.declared.Lane.{Lane}
 use Rattle.lane.specs.State.{putProcess, putChannel, putChannels, count}

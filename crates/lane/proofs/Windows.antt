@@ -6,8 +6,8 @@ use native.Mathlib.Numerals.{towards-suc}
 use mathlib.Core.Path.{_≡_, refl, ap, _∙_}
 use mathlib.Core.List.{List, _∷_, _++_, append-assoc}
 use lib.IntN.{ℤ, pos}
-use lib.ListN.{length, take, drop, length-append, length-drop, length-set, take-append-drop}
-use lib.Seq.{drop-cons, drop-drop, take-all, sets, sets-eq, getD-set-other, length-take-le, drop-at, take-at}
+use lib.ListN.{length, set, take, drop, length-append, length-drop, length-set, take-append-drop}
+use lib.Seq.{drop-cons, drop-drop, take-all, sets, sets-eq, getD-set-other, length-take-le, drop-at, take-at, take-set-le, take-set-lt, drop-set-lt, drop-set-add}
 use Rattle.lane.specs.Window.{at, eight, putEight}
 
 next-of : (n : ℕ) (xs : List ℤ) (b : ℕ) → b < length xs → take (suc n) (drop b xs) ≡ at xs b ∷ take n (drop (suc b) xs)
@@ -81,7 +81,25 @@ eight-put xs b r e h =
     (eight-is (take b xs ++ r ++ drop (b + 8) xs) b (simp (length-append, length-drop) (omega arith))
     ∙ rw (append-assoc, drop-at (take b xs) (r ++ drop (b + 8) xs) b l, take-at r (drop (b + 8) xs) 8 e))
 
+parts : (xs : List ℤ) (b : ℕ) → take b xs ++ take 8 (drop b xs) ++ drop (b + 8) xs ≡ xs
+parts xs b = rw (← drop-drop 8 b xs, append-assoc, take-append-drop 8 (drop b xs), take-append-drop b xs)
+
 -- a window's own registers put back change nothing
 pub put-eight : (xs : List ℤ) (b : ℕ) → b + 8 ≤ length xs → putEight xs b (eight xs b) ≡ xs
-put-eight xs b h =
-    put-is xs b (eight xs b) refl h ∙ rw (eight-is xs b h, ← drop-drop 8 b xs, append-assoc, take-append-drop 8 (drop b xs), take-append-drop b xs)
+put-eight xs b h = put-is xs b (eight xs b) refl h ∙ rw (eight-is xs b h) (parts xs b)
+
+put-changed : (xs : List ℤ) (b a : ℕ) (v : ℤ) (r : List ℤ) → r ≡ take 8 (drop b xs) → length r ≡ 8 → a < 8 → b + 8 ≤ length xs → putEight xs b (set r a v) ≡ set xs (b + a) v
+put-changed xs b a v r e n l h =
+    put-is xs b (set r a v) (length-set r a v ∙ n) h
+    ∙ rw (
+      e,
+      ← take-set-lt 8 (drop b xs) a v l,
+      ← drop-set-add b xs a v,
+      ← take-set-le b xs (b + a) v (omega arith),
+      ← drop-set-lt (b + 8) xs (b + a) v (omega arith),
+    )
+    (parts (set xs (b + a) v) b)
+
+-- a window put back with one register changed
+pub put-one : (xs : List ℤ) (b a : ℕ) (v : ℤ) → a < 8 → b + 8 ≤ length xs → putEight xs b (set (eight xs b) a v) ≡ set xs (b + a) v
+put-one xs b a v l h = put-changed xs b a v (eight xs b) (eight-is xs b h) refl l h

@@ -11,7 +11,7 @@ use Rattle.network.specs.Rules.{receiverOf, receives, sends}
 use Rattle.process.specs.declared.Channel.{Channel}
 use Rattle.process.specs.declared.Outcome.{Outcome}
 use Rattle.process.specs.declared.Outcome.the-variants.{Moved, Sent, Halted, WaitEmpty, WaitFull, Ended}
-use Rattle.process.specs.declared.Stepped.{Stepped}
+use Rattle.process.specs.Process.{Stepped}
 use Rattle.process.specs.Channels.{slot, dropOne}
 use Rattle.process.specs.Execute.{stepOf}
 use Rattle.lane.specs.declared.Lane.{Lane}

@@ -12,7 +12,7 @@ use Rattle.network.specs.declared.Instruction.{Instruction}
 use Rattle.network.specs.Rules.{startOf, countOf, capacityOf, instructionOf}
 use Rattle.process.specs.declared.Condition.{Condition}
 use Rattle.process.specs.declared.Condition.the-variants.{Live, Stopped, Faulted}
-use Rattle.process.specs.declared.Process.{Process}
+use Rattle.process.specs.Process.{Process}
 use Rattle.process.specs.declared.Channel.{Channel}
 use Rattle.process.specs.Channels.{noChannel}
 use Rattle.process.specs.Want.{counted}

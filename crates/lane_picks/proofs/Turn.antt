@@ -18,20 +18,25 @@ use Rattle.network.specs.Code.{instructionAt}
 use Rattle.network.specs.Rules.{startOf, countOf, receiverOf, receives, sends}
 use Rattle.network.proofs.Passed.{passed}
 use Rattle.network.proofs.Slot.{right-at, ends-within}
-use Rattle.process.specs.declared.Process.{Process}
+use Rattle.process.specs.declared.Stance.{Stance}
+use Rattle.process.specs.declared.Change.{Change}
+use Rattle.process.specs.Process.{Stepped}
 use Rattle.process.specs.declared.Channel.{Channel}
 use Rattle.process.specs.declared.Outcome.{Outcome}
 use Rattle.process.specs.declared.Outcome.the-variants.{Moved, Sent, Halted, WaitEmpty, WaitFull, Ended}
-use Rattle.process.specs.declared.Stepped.{Stepped}
 use Rattle.process.specs.Channels.{slot}
-use Rattle.process.specs.Execute.{stepOf, Steppable}
+use Rattle.process.specs.Want.{counted}
+use Rattle.process.specs.Execute.{stepOf}
+use Rattle.process.specs.Changes.{window, inStance, movesAfter, changed, Steppable}
+use Rattle.process.proofs.Fields.{own-low}
 use Rattle.lane.specs.declared.Standing.{Standing}
 use Rattle.lane.specs.declared.Lane.{Lane}
-use Rattle.lane.specs.Window.{eight, putEight}
-use Rattle.lane.specs.State.{World, world, cellAt, noStanding, standingOf, joined, split, processOf, isEnded, channelOf, putChannels, standsAt}
+use Rattle.lane.specs.Window.{putEight}
+use Rattle.lane.specs.State.{World, world, cellAt, noStanding, standingOf, split, processOf, isEnded, channelOf, putChannels, standsAt}
 use Rattle.lane.specs.Pick.{channelIn, dropFrom, settle, putBack, stepAt, instructionFor, stepFor, pickIn, hasMoved, Progress, pickNext, pickAll}
 use Rattle.lane_picks.specs.Turn.{wordAfter, isHalted}
 use Rattle.lane.proofs.Shape.{Shaped}
+use Rattle.lane.proofs.Windows.{eight-is, put-one}
 use Rattle.lane.proofs.SoundLaws.{Sound, ended-at}
 use Rattle.lane.proofs.Instructions.{stands-right}
 use Rattle.lane.proofs.PickLaws.{picked-sound, pick-network, pick-cells, pick-shaped}
@@ -40,6 +45,14 @@ abbrev pub progress : Lane → List ℤ → ℕ → Outcome → ℕ → Progress
 progress l cells moved last channel = record { world = world l cells; moved = moved; last = last; channel = channel }
 
 -- ---- the step
+-- what process p brings to its instruction, whose register a lies at place own
+abbrev pub stanceIn : Lane → ℕ → ℕ → Stance
+stanceIn l p own = record { own = getD (l .registers) own (pos 0); position = standingOf l p .position; condition = standingOf l p .condition }
+
+-- where a process stands after a change
+abbrev pub standingAfter : Standing → Change → Standing
+standingAfter s r = record { position = r .position; condition = r .condition; moves = movesAfter (r .outcome) (s .moves) }
+
 -- the instruction that is fetched is the one at which process p stands
 pub instruction-is :
     {n : Network} (l : Lane) (p : ℕ) {at : ℕ} {i : Instruction}
@@ -51,22 +64,39 @@ pub instruction-is :
 unfolding standsAt
 instruction-is {n} l p same h e₁ e₂ = rw (e₂, e₁, ← same, lt-ltb (standingOf l p .position) (countOf n p) h)
 
--- the step that is taken is that of process p
+-- the registers and the stance of process p, at base, with register a at place own, are the process
+process-is :
+    (l : Lane) (p own : ℕ) {base : ℕ} {s : Stance}
+    → length (l .registers) ≡ 128
+    → p < 16
+    → base ≡ 8 * p
+    → s ≡ stanceIn l p own
+    → inStance (window (l .registers) base) s (standingOf l p .moves) ≡ processOf l p
+unfolding window
+process-is l p own long low e₁ e₂ = rw (e₂, e₁, eight-is (l .registers) (8 * p) (omega arith))
+
+-- the change that is answered is the step of process p
 pub step-is :
-    {n : Network} (l : Lane) (cells : List ℤ) (p : ℕ) {c e from : ℕ} {i : Instruction} {registers : List ℤ} {q : Process} {gone : Bool} {r : Stepped}
+    {n : Network} (l : Lane) (cells : List ℤ) (p own : ℕ) (r : Change) {c e from base : ℕ} {i : Instruction} {s : Stance} {gone : Bool}
     → n ≡ l .network
     → length (l .processes) ≡ 16
+    → length (l .registers) ≡ 128
+    → p < 16
     → i ≡ instructionFor p l
-    → registers ≡ eight (l .registers) (8 * p)
-    → q ≡ joined registers (standingOf l p)
+    → base ≡ 8 * p
+    → s ≡ stanceIn l p own
     → c ≡ channelIn i
     → e ≡ receiverOf n c
     → gone ≡ (ltb e 16 && isEnded (getD (l .processes) (e % 16) noStanding .condition))
     → from ≡ slot c (channelOf l c) 0
-    → r ≡ stepOf i q (channelOf l c) (getD cells from (pos 0)) gone
-    → r ≡ stepFor p (world l cells)
+    → ((moves : ℕ)
+    → changed r (i .a) (inStance (window (l .registers) base) s moves)
+    ≡ stepOf i (inStance (window (l .registers) base) s moves) (channelOf l c) (getD cells from (pos 0)) gone)
+    → changed r (i .a) (processOf l p) ≡ stepFor p (world l cells)
 unfolding stepAt
-step-is l cells p {e = e} same long e₁ e₂ e₃ e₄ e₅ e₆ e₇ e₈ = rw (e₈, e₇, e₆, ended-at (l .processes) long e, e₅, e₄, e₃, e₂, e₁, same)
+step-is l cells p own r {e = e} same long all low e₁ e₂ e₃ e₄ e₅ e₆ e₇ e₈ =
+    (rw (process-is l p own all low e₂ e₃) at (e₈ (standingOf l p .moves)))
+    ∙ rw (e₇, e₆, ended-at (l .processes) long e, e₅, e₄, e₁, same)
 
 -- ---- what follows for channels and cells
 settle-is :
@@ -86,29 +116,81 @@ moved-is : (b : Bool) (n : ℕ) → n + cond b 1 0 ≡ cond b (n + 1) n
 moved-is true n = refl
 moved-is false n = omega arith
 
--- the results of the calls of one turn, put together
-pub pick-is :
+-- the moves after a step that adds none, and after one that adds one
+pub moves-kept : (o : Outcome) (n : ℕ) {k : ℕ} → k ≡ cond (hasMoved o) 1 0 → k ≡ 0 → n ≡ movesAfter o n
+moves-kept Moved n e z = absurd (omega arith)
+moves-kept (Sent v) n e z = absurd (omega arith)
+moves-kept Halted n e z = absurd (omega arith)
+moves-kept WaitEmpty n e z = refl
+moves-kept WaitFull n e z = refl
+moves-kept Ended n e z = refl
+
+pub moves-counted : (o : Outcome) (n : ℕ) {k : ℕ} → k ≡ cond (hasMoved o) 1 0 → (k ≡ 0 → ⊥) → counted n ≡ movesAfter o n
+moves-counted Moved n e z = refl
+moves-counted (Sent v) n e z = refl
+moves-counted Halted n e z = refl
+moves-counted WaitEmpty n e z = absurd (z e)
+moves-counted WaitFull n e z = absurd (z e)
+moves-counted Ended n e z = absurd (z e)
+
+-- what follows from a step, put together
+turn-is :
     (l : Lane) (cells : List ℤ) (moved : ℕ) (last : Outcome) (channel : ℕ)
-    {p p′ c to gain : ℕ} {v : ℤ} {r : Stepped} {file : List ℤ} {m : Standing} {hs : List Channel}
+    {p p′ c to gain : ℕ} {r : Stepped} {file cells′ : List ℤ} {m : Standing} {hs : List Channel}
     → p ≡ p′
     → c ≡ channelIn (instructionFor p l)
     → r ≡ stepFor p (world l cells)
     → file ≡ putEight (l .registers) (8 * p) (r .process .registers)
     → m ≡ split (r .process)
     → to ≡ slot c (channelOf l c) (channelOf l c .held)
-    → v ≡ wordAfter (r .outcome) (getD cells to (pos 0))
+    → cells′ ≡ set cells to (wordAfter (r .outcome) (getD cells to (pos 0)))
     → gain ≡ cond (hasMoved (r .outcome)) 1 0
     → hs ≡ cond (isHalted (r .outcome)) (dropFrom (l .network) p 0 (set (l .channels) c (r .channel))) (set (l .channels) c (r .channel))
     → progress
     (record { network = l .network; registers = file; processes = set (l .processes) p m; channels = hs; accepted = l .accepted })
-    (set cells to v)
+    cells′
     (moved + gain)
     (r .outcome)
     c
     ≡ pickNext p′ (progress l cells moved last channel)
 unfolding pickNext pickIn putBack
-pick-is l cells moved last channel {p} {r = r} e₀ e₁ e₂ e₃ e₄ e₅ e₆ e₇ e₈ =
+turn-is l cells moved last channel {p} {r = r} e₀ e₁ e₂ e₃ e₄ e₅ e₆ e₇ e₈ =
     rw (e₈, e₇, moved-is (hasMoved (r .outcome)) moved, e₆, e₅, e₄, e₃, e₂, e₁, ← e₀, settle-is)
+
+-- the results of the calls of one turn, put together: the change r of register a, which lies at place own
+pub pick-is :
+    (l : Lane) (cells : List ℤ) (moved : ℕ) (last : Outcome) (channel a : ℕ) (r : Change)
+    {p p′ c own to gain : ℕ} {file cells′ : List ℤ} {m : Standing} {g : Channel} {hs : List Channel}
+    → length (l .registers) ≡ 128
+    → p < 16
+    → a < 8
+    → p ≡ p′
+    → c ≡ channelIn (instructionFor p l)
+    → changed r a (processOf l p) ≡ stepFor p (world l cells)
+    → own ≡ 8 * p + a
+    → file ≡ set (l .registers) own (r .value)
+    → m ≡ standingAfter (standingOf l p) r
+    → g ≡ r .channel
+    → to ≡ slot c (channelOf l c) (channelOf l c .held)
+    → cells′ ≡ set cells to (wordAfter (r .outcome) (getD cells to (pos 0)))
+    → gain ≡ cond (hasMoved (r .outcome)) 1 0
+    → hs ≡ cond (isHalted (r .outcome)) (dropFrom (l .network) p 0 (set (l .channels) c g)) (set (l .channels) c g)
+    → progress
+    (record { network = l .network; registers = file; processes = set (l .processes) p m; channels = hs; accepted = l .accepted })
+    cells′
+    (moved + gain)
+    (r .outcome)
+    c
+    ≡ pickNext p′ (progress l cells moved last channel)
+unfolding changed
+pick-is l cells moved last channel a r {p} long low a-low e₀ e₁ e₂ e₃ e₄ e₅ e₆ e₇ e₈ e₉ e =
+    turn-is l cells moved last channel {r = changed r a (processOf l p)} e₀ e₁ e₂
+    (rw (e₄, e₃) (sym (put-one (l .registers) (8 * p) a (r .value) a-low (omega arith))))
+    e₅
+    e₇
+    e₈
+    e₉
+    (rw e₆ at e)
 
 -- ---- what the loop over the picks keeps
 -- after i picks the lane, cells and counts g₀ have become g; n is the lane's network
@@ -140,41 +222,52 @@ next-of l p s h =
 pub next : {picks : List ℕ} {g₀ g : Progress} {i : ℕ} {n : Network} {p : ℕ} → Partway picks g₀ i n g → i < length picks → p ≡ getD picks i 0 → Next n (g .world .lane) p
 next {i = i} {p = p} s h e = rw (s .same) (next-of _ p (s .sound) (rw (e, ← s .same) (s .there i h)))
 
--- what the step of a process of a sound lane requires
-pub steppable-for : (l : Lane) (p : ℕ) → Sound l → p < l .network .processes → Steppable (instructionFor p l) (processOf l p) (channelOf l (channelIn (instructionFor p l)))
-steppable-for l p s h =
-    let c : ℕ = channelIn (instructionFor p l) in
-    let right = stands-right l s p h in
-    let slot = right-at (l .network) (passed (l .network) (s .passed) .slots-good) p h in
-    let bounds = bounds-at c (omega arith) in
-    record {
-      count = countOf (l .network) p;
-      receives = receives (l .network) p (instructionFor p l .b);
-      sends = sends (l .network) p (instructionFor p l .b);
-      right = right .fields;
-      position = omega (arith, s .positions p h, slot .high);
-      oldest = bounds .0;
-      held = bounds .1;
-    }
-  where
-    -- a channel that is there is sound, and one that is not is zero
-    bounds-at : (c : ℕ) → c < 32 → (channelOf l c .oldest < 256) × (channelOf l c .held ≤ channelOf l c .capacity)
-    bounds-at c b = go (decLt c (l .network .channels))
-      where
-        go : Dec (c < l .network .channels) → (channelOf l c .oldest < 256) × (channelOf l c .held ≤ channelOf l c .capacity)
-        go (yes m) = (s .channels c m .place, s .channels c m .within)
-        go (no m) = rw (s .unused c (omega arith) b) (omega arith, omega arith)
+-- what the step of a process of a sound lane requires: of its instruction
+module _ (l : Lane) (p : ℕ) (s : Sound l) (h : p < l .network .processes) where
+  -- field a is a register, or zero
+  a-low-for : instructionFor p l .a < 8
+  a-low-for = own-low (countOf (l .network) p) (receives (l .network) p (instructionFor p l .b)) (sends (l .network) p (instructionFor p l .b)) (instructionFor p l) (stands-right l s p h .fields)
+
+  position-low : standingOf l p .position < 256
+  position-low = omega (arith, s .positions p h, right-at (l .network) (passed (l .network) (s .passed) .slots-good) p h .high)
+
+  -- a channel that is there is sound, and one that is not is zero
+  bounds-at : (c : ℕ) → c < 32 → (channelOf l c .oldest < 256) × (channelOf l c .held ≤ channelOf l c .capacity)
+  bounds-at c b = go (decLt c (l .network .channels))
+    where
+      go : Dec (c < l .network .channels) → (channelOf l c .oldest < 256) × (channelOf l c .held ≤ channelOf l c .capacity)
+      go (yes m) = (s .channels c m .place, s .channels c m .within)
+      go (no m) = rw (s .unused c (omega arith) b) (omega arith, omega arith)
+
+  steppable-for : (own : ℕ) → own ≡ 8 * p + instructionFor p l .a → p < 16 → Steppable (instructionFor p l) (l .registers) (8 * p) (stanceIn l p own) (channelOf l (channelIn (instructionFor p l)))
+  steppable-for own e low =
+      let bounds = bounds-at (channelIn (instructionFor p l)) (omega arith) in
+      record {
+        count = countOf (l .network) p;
+        receives = receives (l .network) p (instructionFor p l .b);
+        sends = sends (l .network) p (instructionFor p l .b);
+        right = stands-right l s p h .fields;
+        position = position-low;
+        oldest = bounds .0;
+        held = bounds .1;
+        low = omega arith;
+        own = rw e;
+      }
+
+pub a-low : {n : Network} (l : Lane) (p : ℕ) {i : Instruction} → Sound l → Next n l p → i ≡ instructionFor p l → i .a < 8
+a-low l p s h e = rw e (a-low-for l p s (h .there))
 
 pub steppable :
-    {n : Network} (l : Lane) (p : ℕ) {c : ℕ} {i : Instruction} {registers : List ℤ} {q : Process}
+    {n : Network} (l : Lane) (p own : ℕ) {c base : ℕ} {i : Instruction} {s : Stance}
     → Sound l
     → Next n l p
     → i ≡ instructionFor p l
-    → registers ≡ eight (l .registers) (8 * p)
-    → q ≡ joined registers (standingOf l p)
+    → base ≡ 8 * p
+    → own ≡ 8 * p + i .a
+    → s ≡ stanceIn l p own
     → c ≡ channelIn i
-    → Steppable i q (channelOf l c)
-steppable l p s h e₁ e₂ e₃ e₄ = rw (e₄, e₃, e₂, e₁) (steppable-for l p s (h .there))
+    → Steppable i (l .registers) base s (channelOf l c)
+steppable l p own s h e₁ e₂ e₃ e₄ e₅ = rw (e₅, e₄, e₂, e₁) (steppable-for l p s (h .there) own (rw e₁ at e₃) (h .low))
 
 few-more : (b : Bool) (n i : ℕ) → n ≤ i → cond b (n + 1) n ≤ i + 1
 few-more true n i h = omega arith

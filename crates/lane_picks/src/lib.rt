@@ -4,76 +4,49 @@ use lane::Ran;
 use lane::Standing;
 use lane_sound::ended_if;
 use network::Instruction;
+use process::Change;
 use process::Channel;
 use process::Outcome;
-use process::Process;
+use process::Stance;
+use process::counted;
+use process::step;
 ghost use mathlib.Core.Path.{_≡_};
 ghost use mathlib.Core.Bool.{true, cond};
 ghost use Prim.Native.Nat.{ℕ, _+_, _*_, _≤_, _<_};
-ghost use lib.ListN.{length, getD};
+ghost use lib.IntN.{pos};
+ghost use lib.ListN.{length, getD, set};
 ghost use Rattle.process.specs.Channels.{slot, dropOne};
-ghost use Rattle.lane.specs.Window.{eight, putEight};
-ghost use Rattle.lane.specs.State.{world, joined, split};
+ghost use Rattle.process.specs.Changes.{movesAfter};
+ghost use Rattle.lane.specs.State.{world};
 ghost use Rattle.lane.specs.Sound.{soundOf};
 ghost use Rattle.lane.specs.Pick.{channelIn, dropFrom, hasMoved, progressOf, pickAll, unpicked};
 ghost use Rattle.lane_picks.specs.Turn.{wordAfter, isHalted, ends};
 
-// ---- the process that is picked. The functions that gather it are public for the crates above, which look what it would do.
-// The registers of process p.
-pub fn window(file: &[i32; 128], p: usize) -> [i32; 8]
+// ---- the process that is picked
+// Where the registers of process p begin.
+fn base_of(p: usize) -> usize
     requires { ⌜ p < 16 ⌝ }
-    ensures { λ r. ⌜ r ≡ eight (now (file .entry)) (8 * p) ⌝ }
+    ensures { λ r. ⌜ (r ≡ 8 * p) × (r ≤ 120) ⌝ }
 {
-    let b = 8 * p;
-    [
-        file[b],
-        file[b + 1],
-        file[b + 2],
-        file[b + 3],
-        file[b + 4],
-        file[b + 5],
-        file[b + 6],
-        file[b + 7],
-    ]
+    8 * p
 }
 
-// Its registers put back.
-fn put_window(file: &mut [i32; 128], p: usize, process: Process)
-    requires { ⌜ p < 16 ⌝ }
-    ensures { λ u. ⌜ now (file .exit) ≡ putEight (now (file .entry)) (8 * p) (process .registers) ⌝ }
+// The place of register a of an instruction of process p.
+fn own_of(p: usize, i: Instruction) -> usize
+    requires { ⌜ (p < 16) × (i .a < 8) ⌝ }
+    ensures { λ r. ⌜ (r ≡ 8 * p + i .a) × (r < 128) ⌝ }
 {
-    let r = process.registers;
-    let b = 8 * p;
-    file[b] = r[0];
-    file[b + 1] = r[1];
-    file[b + 2] = r[2];
-    file[b + 3] = r[3];
-    file[b + 4] = r[4];
-    file[b + 5] = r[5];
-    file[b + 6] = r[6];
-    file[b + 7] = r[7];
+    8 * p + (i.a as usize)
 }
 
-pub fn join(registers: [i32; 8], standing: Standing) -> Process
-    ensures { λ r. ⌜ r ≡ joined registers standing ⌝ }
+fn stance_of(own: i32, standing: Standing) -> Stance
+    ensures { λ r. ⌜ r ≡ record { own = own; position = standing .position; condition = standing .condition } ⌝ }
 {
     let condition = standing.condition;
-    Process {
-        registers,
+    Stance {
+        own,
         position: standing.position,
         condition,
-        moves: standing.moves,
-    }
-}
-
-fn split(process: Process) -> Standing
-    ensures { λ r. ⌜ r ≡ split process ⌝ }
-{
-    let condition = process.condition;
-    Standing {
-        position: process.position,
-        condition,
-        moves: process.moves,
     }
 }
 
@@ -86,7 +59,7 @@ fn number(pick: u8) -> usize
 }
 
 // The number of the instruction at a position of a process that starts there.
-pub fn place(start: u16, position: u16) -> usize
+fn place(start: u16, position: u16) -> usize
     requires { ⌜ start + position < 1016 ⌝ }
     ensures { λ r. ⌜ (r ≡ start + position) × (r < 1016) ⌝ }
 {
@@ -94,7 +67,7 @@ pub fn place(start: u16, position: u16) -> usize
 }
 
 // ---- its channel
-pub fn channel_of(i: Instruction) -> usize
+fn channel_of(i: Instruction) -> usize
     ensures { λ r. ⌜ (r ≡ channelIn i) × (r < 32) ⌝ }
 {
     (i.b % 32) as usize
@@ -116,17 +89,34 @@ pub fn end(e: u8) -> usize
 }
 
 // ---- what the step did
-// The word that the cell of the next message holds after a step.
-fn word(outcome: Outcome, old: i32) -> i32
-    ensures { λ r. ⌜ r ≡ wordAfter outcome old ⌝ }
+// The register at place own after a step.
+fn put_register(file: &mut [i32; 128], own: usize, change: Change)
+    requires { ⌜ own < 128 ⌝ }
+    ensures { λ u. ⌜ now (file .exit) ≡ set (now (file .entry)) own (change .value) ⌝ }
+{
+    let value = change.value;
+    file[own] = value;
+}
+
+// Its channel after a step.
+fn channel_after(change: Change) -> Channel
+    ensures { λ r. ⌜ r ≡ change .channel ⌝ }
+{
+    change.channel
+}
+
+// The cell of the next message after a step.
+fn put_message(cells: &mut [i32], to: usize, outcome: Outcome)
+    requires { ⌜ to < length (now cells) ⌝ }
+    ensures { λ u. ⌜ now (cells .exit) ≡ set (now (cells .entry)) to (wordAfter outcome (getD (now (cells .entry)) to (pos 0))) ⌝ }
 {
     match outcome {
-        Outcome::Sent(v) => v,
-        Outcome::Moved => old,
-        Outcome::Halted => old,
-        Outcome::WaitEmpty => old,
-        Outcome::WaitFull => old,
-        Outcome::Ended => old,
+        Outcome::Sent(v) => cells[to] = v,
+        Outcome::Moved => {}
+        Outcome::Halted => {}
+        Outcome::WaitEmpty => {}
+        Outcome::WaitFull => {}
+        Outcome::Ended => {}
     }
 }
 
@@ -154,6 +144,26 @@ fn gained(outcome: Outcome) -> u64
         Outcome::WaitEmpty => 0,
         Outcome::WaitFull => 0,
         Outcome::Ended => 0,
+    }
+}
+
+// The moves of a process, of which there were n, after a step.
+fn moves_after(outcome: Outcome, n: u64) -> u64
+    ensures { λ r. ⌜ r ≡ movesAfter outcome n ⌝ }
+{
+    if gained(outcome) == 0 { n } else { counted(n) }
+}
+
+// Where a process stands after a step.
+fn standing_after(standing: Standing, change: Change) -> Standing
+    ensures { λ r. ⌜ r ≡ record { position = change .position; condition = change .condition; moves = movesAfter (change .outcome) (standing .moves) } ⌝ }
+{
+    let condition = change.condition;
+    let outcome = change.outcome;
+    Standing {
+        position: change.position,
+        condition,
+        moves: moves_after(outcome, standing.moves),
     }
 }
 
@@ -211,19 +221,20 @@ pub fn pick_all(lane: Lane, cells: &mut [i32], picks: &[u8]) -> Ran
         let standing = l.processes[p];
         let at = place(net.first[p], standing.position);
         let instruction = network::fetch(&net.code, at);
-        let process = join(window(&l.registers, p), standing);
+        let own = own_of(p, instruction);
+        let stance = stance_of(l.registers[own], standing);
         channel = channel_of(instruction);
         let h = l.channels[channel];
         let e = end(net.receiver[channel]);
         let gone = ended_if(e, l.processes[e % 16]);
-        let stepped = process::step(instruction, process, h, cells[slot(channel, h, 0)], gone);
-        put_window(&mut l.registers, p, stepped.process);
-        l.processes[p] = split(stepped.process);
-        let kept = stepped.channel;
-        l.channels[channel] = kept;
-        last = stepped.outcome;
-        let to = slot(channel, h, h.held);
-        cells[to] = word(last, cells[to]);
+        let next = cells[slot(channel, h, 0)];
+        let change = step(instruction, &l.registers, base_of(p), stance, h, next, gone);
+        put_register(&mut l.registers, own, change);
+        let after = standing_after(l.processes[p], change);
+        l.processes[p] = after;
+        l.channels[channel] = channel_after(change);
+        last = change.outcome;
+        put_message(cells, slot(channel, h, h.held), last);
         moved += gained(last);
         i += 1;
         if halted(last) {

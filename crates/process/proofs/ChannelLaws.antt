@@ -14,7 +14,7 @@ use Rattle.arithmetic.specs.declared.Divided.the-variants.{By, Zero}
 use Rattle.arithmetic.specs.Quotient.{quotientOf, remainderOf}
 use Rattle.process.specs.declared.Condition.{Condition}
 use Rattle.process.specs.declared.Condition.the-variants.{Live, Stopped, Faulted}
-use Rattle.process.specs.declared.Process.{Process}
+use Rattle.process.specs.Process.{Process}
 use Rattle.process.specs.declared.Channel.{Channel}
 use Rattle.process.specs.declared.Outcome.the-variants.{Moved, Halted, WaitEmpty, WaitFull}
 use Rattle.process.specs.Channels.{putOne, getOne, closeOne}

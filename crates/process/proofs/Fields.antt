@@ -1,19 +1,24 @@
 -- What an instruction's function requires, from what a step does: the registers that a right instruction names are below 8.
 -- Assumes nothing.
-use mathlib.Core.Path.{_≡_, refl, sym, subst}
+use mathlib.Core.Path.{_≡_, refl, sym, subst, _∙_}
 use mathlib.Core.Bool.{Bool, true, false, _&&_}
-use Prim.Native.Nat.{ℕ, _≤_, _<_}
+use mathlib.Core.List.{List}
+use Prim.Native.Nat.{ℕ, zero, suc, _+_, _≤_, _<_}
+use native.Mathlib.Decide.{decLt, ℕ-discrete}
 use native.Mathlib.Omega.{arith}
 use lib.Dec.{T}
-use lib.ListN.{List·getD-eq-default}
-use borrow.Author.Tests.{ltb-true}
-use Rattle.network.specs.Code.{register}
+use lib.IntN.{ℤ, pos}
+use lib.ListN.{getD, set, drop, List·getD-eq-default}
+use lib.Seq.{getD-take, getD-drop, set-getD}
+use borrow.Author.Tests.{ltb-true, eqb-true}
+use Rattle.network.specs.Code.{register, unnamed, fieldsRight}
 use Rattle.network.specs.declared.Instruction.{Instruction}
-use Rattle.process.specs.declared.Process.{Process}
 use Rattle.process.specs.declared.Channel.{Channel}
-use Rattle.process.specs.Execute.{Steppable}
+use Rattle.process.specs.declared.Stance.{Stance}
+use Rattle.process.specs.Process.{Process}
 use Rattle.process.specs.Intent.{halt}
 use Rattle.process.specs.Want.{faulted, wantLive}
+use Rattle.process.specs.Changes.{window, Steppable}
 
 pub both : (s t : Bool) → s && t ≡ true → (s ≡ true) × (t ≡ true)
 both true t e = (refl, e)
@@ -29,16 +34,94 @@ second r b t e = ltb-true b 8 (both r (register b) (both (r && register b) t e .
 pub third : (s : Bool) (c : ℕ) → s && register c ≡ true → c < 8
 third s c e = ltb-true c 8 (both s (register c) e .1)
 
-module _ {i : Instruction} {q : Process} {h : Channel} (k : Steppable i q h) where
-  pub one : (s t : Bool) → register (i .a) && s && t ≡ true → (i .a < 8) × (q .position < 256)
-  one s t e = (first (i .a) s t e, k .position)
+-- a first field that is not named
+first-zero : (a : ℕ) (s t : Bool) → unnamed a && s && t ≡ true → a < 8
+first-zero a s t e = let z : a ≡ 0 = eqb-true a 0 (both (unnamed a) s (both (unnamed a && s) t e .0) .0) in omega arith
 
-  pub two : (t : Bool) → register (i .a) && register (i .b) && t ≡ true → (i .a < 8) × (i .b < 8) × (q .position < 256)
-  two t e = (first (i .a) (register (i .b)) t e, second (register (i .a)) (i .b) t e, k .position)
+-- ---- by the opcode: 0 to 13 in turn, and those above
+module _ (P : ℕ → Type 0) where
+  abbrev pub Run : ℕ → ℕ → Type 0
+  Run k zero = Unit
+  Run k (suc n) = P k × Run (suc k) n
 
-  pub three : register (i .a) && register (i .b) && register (i .c) ≡ true → (i .a < 8) × (i .b < 8) × (i .c < 8) × (q .position < 256)
+  pub run-at : (n k : ℕ) → Run k n → (j : ℕ) → k ≤ j → j < k + n → P j
+  run-at zero k r j l u = absurd (omega arith)
+  run-at (suc n) k r j l u = go (ℕ-discrete j k) (run-at n (suc k) (r .1) j)
+    where
+      go : Dec (j ≡ k) → (suc k ≤ j → j < suc k + n → P j) → P j
+      go (yes e) s = rw e (r .0)
+      go (no e) s = s (omega arith) (omega arith)
+
+pub by-opcode : (i : Instruction) (Q : Type 0) → Run (λ k. i .op ≡ k → Q) 0 14 → (14 ≤ i .op → Q) → Q
+by-opcode i Q r o = go (decLt (i .op) 14)
+  where
+    go : Dec (i .op < 14) → Q
+    go (yes l) = run-at (λ k. i .op ≡ k → Q) 14 0 r (i .op) (omega arith) (omega arith) refl
+    go (no l) = o (omega arith)
+
+-- field a of a right instruction is a register, or zero
+pub own-low : (count : ℕ) (receives sends : Bool) (i : Instruction) → fieldsRight count receives sends i ≡ true → i .a < 8
+unfolding fieldsRight
+own-low count receives sends i r =
+    by-opcode i (i .a < 8) (
+      λ e. first-zero _ _ _ (rw e at r),
+      (
+        λ e. ltb-true _ _ (rw e at r),
+        (
+          λ e. first _ _ _ (rw e at r),
+          (
+            λ e. first _ _ _ (rw e at r),
+            (
+              λ e. first _ _ _ (rw e at r),
+              (
+                λ e. first _ _ _ (rw e at r),
+                (
+                  λ e. first _ _ _ (rw e at r),
+                  (
+                    λ e. first _ _ _ (rw e at r),
+                    (
+                      λ e. first-zero _ _ _ (rw e at r),
+                      (
+                        λ e. first _ _ _ (rw e at r),
+                        (
+                          λ e. first _ _ _ (rw e at r),
+                          (
+                            λ e. first _ _ _ (rw e at r),
+                            (λ e. first _ _ _ (rw e at r), (λ e. first-zero _ _ _ (rw e at r), tt)),
+                          ),
+                        ),
+                      ),
+                    ),
+                  ),
+                ),
+              ),
+            ),
+          ),
+        ),
+      ),
+    )
+    (λ l. let z : false ≡ true = rw List·getD-eq-default at r in absurd (subst T (sym z) tt))
+
+-- register r of the eight is the file's from the base on
+pub register-in : (file : List ℤ) (base r : ℕ) → r < 8 → getD (window file base) r (pos 0) ≡ getD file (base + r) (pos 0)
+unfolding window
+register-in file base r l = getD-take 8 (drop base file) r (pos 0) l ∙ getD-drop base file r (pos 0)
+
+-- a register's own value put into it
+pub kept : (registers : List ℤ) (a : ℕ) {v : ℤ} → v ≡ getD registers a (pos 0) → set registers a v ≡ registers
+kept registers a e = rw e (set-getD registers a (pos 0))
+
+module _ {i : Instruction} {file : List ℤ} {base : ℕ} {s : Stance} {h : Channel} (k : Steppable i file base s h) where
+  -- register a is at hand
+  pub at-hand : s .own ≡ getD (window file base) (i .a) (pos 0)
+  at-hand = k .own ∙ sym (register-in file base (i .a) (own-low (k .count) (k .receives) (k .sends) i (k .right)))
+
+  pub two : (t : Bool) → register (i .a) && register (i .b) && t ≡ true → (base ≤ 120) × (i .b < 8) × (s .position < 256)
+  two t e = (k .low, second (register (i .a)) (i .b) t e, k .position)
+
+  pub three : register (i .a) && register (i .b) && register (i .c) ≡ true → (base ≤ 120) × (i .b < 8) × (i .c < 8) × (s .position < 256)
   three e = (
-    first (i .a) (register (i .b)) (register (i .c)) e,
+    k .low,
     second (register (i .a)) (i .b) (register (i .c)) e,
     third (register (i .a) && register (i .b)) (i .c) e,
     k .position,

@@ -19,16 +19,15 @@ use Rattle.arithmetic.specs.declared.Divided.the-variants.{By, Zero}
 use Rattle.arithmetic.specs.Quotient.{quotientOf, remainderOf}
 use Rattle.process.specs.declared.Condition.{Condition}
 use Rattle.process.specs.declared.Condition.the-variants.{Live, Stopped, Faulted}
-use Rattle.process.specs.declared.Process.{Process}
+use Rattle.process.specs.Process.{Process, Stepped}
 use Rattle.process.specs.declared.Channel.{Channel}
 use Rattle.process.specs.declared.Outcome.{Outcome}
 use Rattle.process.specs.declared.Outcome.the-variants.{Moved, Sent, Halted, WaitEmpty, WaitFull, Ended}
-use Rattle.process.specs.declared.Stepped.{Stepped}
 use Rattle.process.specs.Channels.{putOne, getOne, closeOne}
 use Rattle.process.specs.Intent.{Intent, idle, inner, receive, send, close, halt}
 use Rattle.process.specs.Want.{counted, registerOf, onward, assigned, jumped, stopped, faulted, isNull, isNegative, divided, branched, wantLive, wantIn, want}
 use Rattle.process.specs.Execute.{outcome, execute, stepOf}
-use Rattle.process.proofs.Fields.{both, beyond}
+use Rattle.process.proofs.Fields.{both, run-at, by-opcode, beyond}
 
 -- ---- outcomes: those that change nothing, and the end
 abbrev pub waits : Outcome → Bool
@@ -122,27 +121,6 @@ module _ (G E : Process → Type 0) where
   pub stepped : (i : Instruction) (q : Process) (h : Channel) (m : ℤ) (gone : Bool) → Every (wantLive i q) → Result q h (stepOf i q h m gone)
   unfolding stepOf want
   stepped i q h m gone e = executed q h (want i q) m gone (wants (q .condition) i q e)
-
--- ---- by the opcode: 0 to 13 in turn, and those above
-module _ (P : ℕ → Type 0) where
-  abbrev Run : ℕ → ℕ → Type 0
-  Run k zero = Unit
-  Run k (suc n) = P k × Run (suc k) n
-
-  run-at : (n k : ℕ) → Run k n → (j : ℕ) → k ≤ j → j < k + n → P j
-  run-at zero k r j l u = absurd (omega arith)
-  run-at (suc n) k r j l u = go (ℕ-discrete j k) (run-at n (suc k) (r .1) j)
-    where
-      go : Dec (j ≡ k) → (suc k ≤ j → j < suc k + n → P j) → P j
-      go (yes e) s = rw e (r .0)
-      go (no e) s = s (omega arith) (omega arith)
-
-by-opcode : (i : Instruction) (Q : Type 0) → Run (λ k. i .op ≡ k → Q) 0 14 → (14 ≤ i .op → Q) → Q
-by-opcode i Q r o = go (decLt (i .op) 14)
-  where
-    go : Dec (i .op < 14) → Q
-    go (yes l) = run-at (λ k. i .op ≡ k → Q) 14 0 r (i .op) (omega arith) (omega arith) refl
-    go (no l) = o (omega arith)
 
 -- ---- what each opcode may lead to: on to the next instruction, to instruction c, a stop, a fault
 module _ (G E : Process → Type 0) (i : Instruction) (q : Process)

@@ -2,17 +2,13 @@
 -- ended (`gone`). Document 01, "Instructions", 11 to 13, and "The lane in operation".
 -- Assumes nothing.
 use mathlib.Core.Bool.{Bool, true, false, cond}
-use mathlib.Core.Path.{_≡_}
-use Prim.Native.Nat.{ℕ, _≤_, _<_}
-use lib.Dec.{eqb, ltb}
+use lib.Dec.{eqb}
 use lib.IntN.{ℤ}
-use Rattle.network.specs.Code.{fieldsRight}
 use Rattle.network.specs.declared.Instruction.{Instruction}
-use Rattle.process.specs.declared.Process.{Process}
+use Rattle.process.specs.Process.{Process, Stepped}
 use Rattle.process.specs.declared.Channel.{Channel}
 use Rattle.process.specs.declared.Outcome.{Outcome}
 use Rattle.process.specs.declared.Outcome.the-variants.{Moved, Sent, Halted, WaitEmpty, WaitFull, Ended}
-use Rattle.process.specs.declared.Stepped.{Stepped}
 use Rattle.process.specs.Channels.{putOne, getOne, closeOne}
 use Rattle.process.specs.Intent.{Intent, idle, inner, receive, send, close, halt}
 use Rattle.process.specs.Want.{want}
@@ -42,14 +38,3 @@ execute (halt x) q h m gone = outcome x h Halted
 
 unfoldable pub stepOf : Instruction → Process → Channel → ℤ → Bool → Stepped
 stepOf i q h m gone = execute (want i q) q h m gone
-
--- what the caller of a step has shown: the instruction passes the file's rules for some process (with so many instructions, at these ends of
--- channel b), and the position and the channel are those of a sound lane
-pub record Steppable (i : Instruction) (q : Process) (h : Channel) : Type 0 where
-  pub count : ℕ
-  pub receives : Bool
-  pub sends : Bool
-  pub right : fieldsRight count receives sends i ≡ true
-  pub position : q .position < 256
-  pub oldest : h .oldest < 256
-  pub held : h .held ≤ h .capacity

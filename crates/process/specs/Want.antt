@@ -13,7 +13,7 @@ use Rattle.arithmetic.specs.Wrap.{sumOf, differenceOf, productOf}
 use Rattle.arithmetic.specs.Quotient.{quotientOf, remainderOf}
 use Rattle.process.specs.declared.Condition.{Condition}
 use Rattle.process.specs.declared.Condition.the-variants.{Live, Stopped, Faulted}
-use Rattle.process.specs.declared.Process.{Process}
+use Rattle.process.specs.Process.{Process}
 use Rattle.process.specs.Intent.{Intent, idle, inner, receive, send, close, halt}
 
 -- "Moves and accepted calls are 64-bit and stay at their largest."

@@ -1,139 +1,112 @@
 // The instructions on small values: one function for each opcode, and the match that picks it.
+use crate::Change;
 use crate::Channel;
 use crate::Condition;
 use crate::Outcome;
-use crate::Process;
-use crate::Stepped;
-use crate::counted;
+use crate::Stance;
 use arithmetic::Divided;
 use network::Instruction;
 ghost use mathlib.Core.Path.{_≡_};
 ghost use mathlib.Core.Bool.{Bool, cond};
-ghost use Prim.Native.Nat.{_≤_, _<_};
+ghost use Prim.Native.Nat.{ℕ, _+_, _≤_, _<_};
 ghost use lib.IntN.{ℤ, pos};
-ghost use lib.ListN.{getD, set};
+ghost use lib.ListN.{getD};
 ghost use Rattle.arithmetic.specs.Wrap.{sumOf, differenceOf, productOf};
 ghost use Rattle.arithmetic.specs.Quotient.{quotientOf, remainderOf};
 ghost use Rattle.process.specs.Intent.{receive, send, close};
 ghost use Rattle.process.specs.Want.{registerOf, moved, onward, assigned, jumped, stopped, faulted, signed16, isNull, isNegative, divided, wantLive};
-ghost use Rattle.process.specs.Execute.{outcome, execute, Steppable};
+ghost use Rattle.process.specs.Execute.{outcome, execute};
+ghost use Rattle.process.specs.Changes.{window, inStance, changed, Means, Steppable};
 
-// ---- registers
-fn register(r: [i32; 8], a: u8) -> i32
-    requires { ⌜ a < 8 ⌝ }
-    ensures { λ v. ⌜ v ≡ getD r a (pos 0) ⌝ }
+// Register r of the process whose registers lie from a base on.
+fn register(file: &[i32; 128], base: usize, r: u8) -> i32
+    requires { ⌜ (base ≤ 120) × (r < 8) ⌝ }
+    ensures { λ v. ⌜ v ≡ getD (now (file .entry)) (base + r) (pos 0) ⌝ }
 {
-    let k = a as usize;
-    r[k]
-}
-
-fn put_register(r: [i32; 8], a: u8, v: i32) -> [i32; 8]
-    requires { ⌜ a < 8 ⌝ }
-    ensures { λ s. ⌜ s ≡ set r a v ⌝ }
-{
-    let k = a as usize;
-    let mut s = r;
-    s[k] = v;
-    s
-}
-
-// ---- the process after a move
-fn moved(registers: [i32; 8], position: u16, condition: Condition, process: Process) -> Process
-    ensures { λ r. ⌜ r ≡ moved registers position condition process ⌝ }
-{
-    let moves = counted(process.moves);
-    Process {
-        registers,
-        position,
-        condition,
-        moves,
-    }
-}
-
-// To the next instruction.
-fn onward(registers: [i32; 8], process: Process) -> Process
-    requires { ⌜ process .position < 256 ⌝ }
-    ensures { λ r. ⌜ r ≡ onward registers process ⌝ }
-{
-    let condition = process.condition;
-    moved(registers, process.position + 1, condition, process)
+    let k = base + (r as usize);
+    file[k]
 }
 
 // ---- an instruction's result
 // Register a becomes v, and on.
-fn assign(process: Process, channel: Channel, a: u8, v: i32) -> Stepped
-    requires { ⌜ (a < 8) × (process .position < 256) ⌝ }
-    ensures { λ r. ⌜ r ≡ outcome (assigned a v process) channel Outcome.Moved ⌝ }
+fn assign(stance: Stance, channel: Channel, v: i32) -> Change
+    requires { ⌜ stance .position < 256 ⌝ }
+    ensures { λ r. ⌜ r ≡ record { value = v; position = stance .position + 1; condition = stance .condition; channel = channel; outcome = Outcome.Moved } ⌝ }
 {
-    let registers = process.registers;
-    let process = onward(put_register(registers, a, v), process);
-    Stepped {
-        process,
+    let condition = stance.condition;
+    Change {
+        value: v,
+        position: stance.position + 1,
+        condition,
         channel,
         outcome: Outcome::Moved,
     }
 }
 
 // On, with the registers as they are.
-fn proceed(process: Process, channel: Channel, o: Outcome) -> Stepped
-    requires { ⌜ process .position < 256 ⌝ }
-    ensures { λ r. ⌜ r ≡ outcome (onward (process .registers) process) channel o ⌝ }
+fn proceed(stance: Stance, channel: Channel, o: Outcome) -> Change
+    requires { ⌜ stance .position < 256 ⌝ }
+    ensures { λ r. ⌜ r ≡ record { value = stance .own; position = stance .position + 1; condition = stance .condition; channel = channel; outcome = o } ⌝ }
 {
-    let registers = process.registers;
-    let process = onward(registers, process);
-    Stepped {
-        process,
+    let condition = stance.condition;
+    Change {
+        value: stance.own,
+        position: stance.position + 1,
+        condition,
         channel,
         outcome: o,
     }
 }
 
 // To instruction c.
-fn jump_to(process: Process, channel: Channel, c: u8) -> Stepped
-    ensures { λ r. ⌜ r ≡ outcome (jumped c process) channel Outcome.Moved ⌝ }
+fn jump_to(stance: Stance, channel: Channel, c: u8) -> Change
+    ensures { λ r. ⌜ r ≡ record { value = stance .own; position = c; condition = stance .condition; channel = channel; outcome = Outcome.Moved } ⌝ }
 {
-    let kept = process.registers;
-    let condition = process.condition;
-    let process = moved(kept, c as u16, condition, process);
-    Stepped {
-        process,
+    let condition = stance.condition;
+    Change {
+        value: stance.own,
+        position: c as u16,
+        condition,
         channel,
         outcome: Outcome::Moved,
     }
 }
 
 // The process ends where it stands, stopped or faulted.
-fn end(process: Process, channel: Channel, condition: Condition) -> Stepped
-    ensures { λ r. ⌜ r ≡ outcome (moved (process .registers) (process .position) condition process) channel Outcome.Halted ⌝ }
+fn end(stance: Stance, channel: Channel, condition: Condition) -> Change
+    ensures { λ r. ⌜ r ≡ record { value = stance .own; position = stance .position; condition = condition; channel = channel; outcome = Outcome.Halted } ⌝ }
 {
-    let registers = process.registers;
-    let process = moved(registers, process.position, condition, process);
-    Stepped {
-        process,
+    Change {
+        value: stance.own,
+        position: stance.position,
+        condition,
         channel,
         outcome: Outcome::Halted,
     }
 }
 
 // Nothing changes.
-pub fn stay(process: Process, channel: Channel, o: Outcome) -> Stepped
-    ensures { λ r. ⌜ r ≡ outcome process channel o ⌝ }
+pub fn stay(stance: Stance, channel: Channel, o: Outcome) -> Change
+    ensures { λ r. ⌜ r ≡ record { value = stance .own; position = stance .position; condition = stance .condition; channel = channel; outcome = o } ⌝ }
 {
-    Stepped {
-        process,
+    let condition = stance.condition;
+    Change {
+        value: stance.own,
+        position: stance.position,
+        condition,
         channel,
         outcome: o,
     }
 }
 
 // A quotient or a remainder into register a; a zero divisor faults.
-fn put_divided(d: Divided, a: u8, process: Process, channel: Channel) -> Stepped
-    requires { ⌜ (a < 8) × (process .position < 256) ⌝ }
-    ensures { λ r. ⌜ ((m : ℤ) (g : Bool) → r ≡ execute (divided a d process) process channel m g) ⌝ }
+fn put_divided(d: Divided, stance: Stance, channel: Channel) -> Change
+    requires { ⌜ stance .position < 256 ⌝ }
+    ensures { λ r. ⌜ ((a : ℕ) (m : ℤ) (g : Bool) → Means a stance r (λ q. execute (divided a d q) q channel m g)) ⌝ }
 {
     match d {
-        Divided::By(v) => assign(process, channel, a, v),
-        Divided::Zero => end(process, channel, Condition::Faulted),
+        Divided::By(v) => assign(stance, channel, v),
+        Divided::Zero => end(stance, channel, Condition::Faulted),
     }
 }
 
@@ -150,180 +123,194 @@ fn signed16(b: u8, c: u8) -> i32
 }
 
 // ---- the opcodes 0 to 13
-fn stop(process: Process, channel: Channel) -> Stepped
-    ensures { λ r. ⌜ r ≡ outcome (stopped process) channel Outcome.Halted ⌝ }
+fn stop(stance: Stance, channel: Channel) -> Change
+    ensures { λ r. ⌜ ((a : ℕ) → Means a stance r (λ q. outcome (stopped q) channel Outcome.Halted)) ⌝ }
 {
-    end(process, channel, Condition::Stopped)
+    end(stance, channel, Condition::Stopped)
 }
 
-fn set(i: Instruction, process: Process, channel: Channel) -> Stepped
-    requires { ⌜ (i .a < 8) × (process .position < 256) ⌝ }
-    ensures { λ r. ⌜ r ≡ outcome (assigned (i .a) (signed16 (i .b) (i .c)) process) channel Outcome.Moved ⌝ }
+fn set(i: Instruction, stance: Stance, channel: Channel) -> Change
+    requires { ⌜ stance .position < 256 ⌝ }
+    ensures { λ r. ⌜ Means (i .a) stance r (λ q. outcome (assigned (i .a) (signed16 (i .b) (i .c)) q) channel Outcome.Moved) ⌝ }
 {
-    assign(process, channel, i.a, signed16(i.b, i.c))
+    assign(stance, channel, signed16(i.b, i.c))
 }
 
-fn copy(i: Instruction, process: Process, channel: Channel) -> Stepped
-    requires { ⌜ (i .a < 8) × (i .b < 8) × (process .position < 256) ⌝ }
-    ensures { λ r. ⌜ r ≡ outcome (assigned (i .a) (registerOf process (i .b)) process) channel Outcome.Moved ⌝ }
+fn copy(i: Instruction, file: &[i32; 128], base: usize, stance: Stance, channel: Channel) -> Change
+    requires { ⌜ (base ≤ 120) × (i .b < 8) × (stance .position < 256) ⌝ }
+    ensures { λ r. ⌜ Means (i .a) stance r (λ q. outcome (assigned (i .a) (getD (now (file .entry)) (base + i .b) (pos 0)) q) channel Outcome.Moved) ⌝ }
 {
-    let registers = process.registers;
-    assign(process, channel, i.a, register(registers, i.b))
+    assign(stance, channel, register(file, base, i.b))
 }
 
-fn add(i: Instruction, process: Process, channel: Channel) -> Stepped
-    requires { ⌜ (i .a < 8) × (i .b < 8) × (i .c < 8) × (process .position < 256) ⌝ }
-    ensures { λ r. ⌜ r ≡ outcome (assigned (i .a) (sumOf (registerOf process (i .b)) (registerOf process (i .c))) process) channel Outcome.Moved ⌝ }
+fn add(i: Instruction, file: &[i32; 128], base: usize, stance: Stance, channel: Channel) -> Change
+    requires { ⌜ (base ≤ 120) × (i .b < 8) × (i .c < 8) × (stance .position < 256) ⌝ }
+    ensures { λ r. ⌜ Means (i .a) stance r (λ q. outcome (assigned (i .a) (sumOf (getD (now (file .entry)) (base + i .b) (pos 0)) (getD (now (file .entry)) (base + i .c) (pos 0))) q) channel Outcome.Moved) ⌝ }
 {
-    let registers = process.registers;
-    let x = register(registers, i.b);
-    let y = register(registers, i.c);
-    assign(process, channel, i.a, arithmetic::sum(x, y))
+    let x = register(file, base, i.b);
+    let y = register(file, base, i.c);
+    assign(stance, channel, arithmetic::sum(x, y))
 }
 
-fn subtract(i: Instruction, process: Process, channel: Channel) -> Stepped
-    requires { ⌜ (i .a < 8) × (i .b < 8) × (i .c < 8) × (process .position < 256) ⌝ }
-    ensures { λ r. ⌜ r ≡ outcome (assigned (i .a) (differenceOf (registerOf process (i .b)) (registerOf process (i .c))) process) channel Outcome.Moved ⌝ }
+fn subtract(
+    i: Instruction,
+    file: &[i32; 128],
+    base: usize,
+    stance: Stance,
+    channel: Channel,
+) -> Change
+    requires { ⌜ (base ≤ 120) × (i .b < 8) × (i .c < 8) × (stance .position < 256) ⌝ }
+    ensures { λ r. ⌜ Means (i .a) stance r (λ q. outcome (assigned (i .a) (differenceOf (getD (now (file .entry)) (base + i .b) (pos 0)) (getD (now (file .entry)) (base + i .c) (pos 0))) q) channel Outcome.Moved) ⌝ }
 {
-    let registers = process.registers;
-    let x = register(registers, i.b);
-    let y = register(registers, i.c);
-    assign(process, channel, i.a, arithmetic::difference(x, y))
+    let x = register(file, base, i.b);
+    let y = register(file, base, i.c);
+    assign(stance, channel, arithmetic::difference(x, y))
 }
 
-fn multiply(i: Instruction, process: Process, channel: Channel) -> Stepped
-    requires { ⌜ (i .a < 8) × (i .b < 8) × (i .c < 8) × (process .position < 256) ⌝ }
-    ensures { λ r. ⌜ r ≡ outcome (assigned (i .a) (productOf (registerOf process (i .b)) (registerOf process (i .c))) process) channel Outcome.Moved ⌝ }
+fn multiply(
+    i: Instruction,
+    file: &[i32; 128],
+    base: usize,
+    stance: Stance,
+    channel: Channel,
+) -> Change
+    requires { ⌜ (base ≤ 120) × (i .b < 8) × (i .c < 8) × (stance .position < 256) ⌝ }
+    ensures { λ r. ⌜ Means (i .a) stance r (λ q. outcome (assigned (i .a) (productOf (getD (now (file .entry)) (base + i .b) (pos 0)) (getD (now (file .entry)) (base + i .c) (pos 0))) q) channel Outcome.Moved) ⌝ }
 {
-    let registers = process.registers;
-    let x = register(registers, i.b);
-    let y = register(registers, i.c);
-    assign(process, channel, i.a, arithmetic::product(x, y))
+    let x = register(file, base, i.b);
+    let y = register(file, base, i.c);
+    assign(stance, channel, arithmetic::product(x, y))
 }
 
-fn divide(i: Instruction, process: Process, channel: Channel) -> Stepped
-    requires { ⌜ (i .a < 8) × (i .b < 8) × (i .c < 8) × (process .position < 256) ⌝ }
-    ensures { λ r. ⌜ ((m : ℤ) (g : Bool) → r ≡ execute (divided (i .a) (quotientOf (registerOf process (i .b)) (registerOf process (i .c))) process) process channel m g) ⌝ }
+fn divide(
+    i: Instruction,
+    file: &[i32; 128],
+    base: usize,
+    stance: Stance,
+    channel: Channel,
+) -> Change
+    requires { ⌜ (base ≤ 120) × (i .b < 8) × (i .c < 8) × (stance .position < 256) ⌝ }
+    ensures { λ r. ⌜ ((m : ℤ) (g : Bool) → Means (i .a) stance r (λ q. execute (divided (i .a) (quotientOf (getD (now (file .entry)) (base + i .b) (pos 0)) (getD (now (file .entry)) (base + i .c) (pos 0))) q) q channel m g)) ⌝ }
 {
-    let registers = process.registers;
-    let x = register(registers, i.b);
-    let y = register(registers, i.c);
-    put_divided(arithmetic::quotient(x, y), i.a, process, channel)
+    let x = register(file, base, i.b);
+    let y = register(file, base, i.c);
+    put_divided(arithmetic::quotient(x, y), stance, channel)
 }
 
-fn remainder(i: Instruction, process: Process, channel: Channel) -> Stepped
-    requires { ⌜ (i .a < 8) × (i .b < 8) × (i .c < 8) × (process .position < 256) ⌝ }
-    ensures { λ r. ⌜ ((m : ℤ) (g : Bool) → r ≡ execute (divided (i .a) (remainderOf (registerOf process (i .b)) (registerOf process (i .c))) process) process channel m g) ⌝ }
+fn remainder(
+    i: Instruction,
+    file: &[i32; 128],
+    base: usize,
+    stance: Stance,
+    channel: Channel,
+) -> Change
+    requires { ⌜ (base ≤ 120) × (i .b < 8) × (i .c < 8) × (stance .position < 256) ⌝ }
+    ensures { λ r. ⌜ ((m : ℤ) (g : Bool) → Means (i .a) stance r (λ q. execute (divided (i .a) (remainderOf (getD (now (file .entry)) (base + i .b) (pos 0)) (getD (now (file .entry)) (base + i .c) (pos 0))) q) q channel m g)) ⌝ }
 {
-    let registers = process.registers;
-    let x = register(registers, i.b);
-    let y = register(registers, i.c);
-    put_divided(arithmetic::remainder(x, y), i.a, process, channel)
+    let x = register(file, base, i.b);
+    let y = register(file, base, i.c);
+    put_divided(arithmetic::remainder(x, y), stance, channel)
 }
 
-fn jump(i: Instruction, process: Process, channel: Channel) -> Stepped
-    ensures { λ r. ⌜ r ≡ outcome (jumped (i .c) process) channel Outcome.Moved ⌝ }
+fn jump(i: Instruction, stance: Stance, channel: Channel) -> Change
+    ensures { λ r. ⌜ Means (i .a) stance r (λ q. outcome (jumped (i .c) q) channel Outcome.Moved) ⌝ }
 {
-    jump_to(process, channel, i.c)
+    jump_to(stance, channel, i.c)
 }
 
-fn jump_zero(i: Instruction, process: Process, channel: Channel) -> Stepped
-    requires { ⌜ (i .a < 8) × (process .position < 256) ⌝ }
-    ensures { λ r. ⌜ r ≡ outcome (cond (isNull (registerOf process (i .a))) (jumped (i .c) process) (onward (process .registers) process)) channel Outcome.Moved ⌝ }
+fn jump_zero(i: Instruction, stance: Stance, channel: Channel) -> Change
+    requires { ⌜ stance .position < 256 ⌝ }
+    ensures { λ r. ⌜ Means (i .a) stance r (λ q. outcome (cond (isNull (registerOf q (i .a))) (jumped (i .c) q) (onward (q .registers) q)) channel Outcome.Moved) ⌝ }
 {
-    let registers = process.registers;
-    let x = register(registers, i.a);
-    if x == 0 {
-        jump_to(process, channel, i.c)
+    if stance.own == 0 {
+        jump_to(stance, channel, i.c)
     } else {
-        proceed(process, channel, Outcome::Moved)
+        proceed(stance, channel, Outcome::Moved)
     }
 }
 
-fn jump_negative(i: Instruction, process: Process, channel: Channel) -> Stepped
-    requires { ⌜ (i .a < 8) × (process .position < 256) ⌝ }
-    ensures { λ r. ⌜ r ≡ outcome (cond (isNegative (registerOf process (i .a))) (jumped (i .c) process) (onward (process .registers) process)) channel Outcome.Moved ⌝ }
+fn jump_negative(i: Instruction, stance: Stance, channel: Channel) -> Change
+    requires { ⌜ stance .position < 256 ⌝ }
+    ensures { λ r. ⌜ Means (i .a) stance r (λ q. outcome (cond (isNegative (registerOf q (i .a))) (jumped (i .c) q) (onward (q .registers) q)) channel Outcome.Moved) ⌝ }
 {
-    let registers = process.registers;
-    let x = register(registers, i.a);
-    if x < 0 {
-        jump_to(process, channel, i.c)
+    if stance.own < 0 {
+        jump_to(stance, channel, i.c)
     } else {
-        proceed(process, channel, Outcome::Moved)
+        proceed(stance, channel, Outcome::Moved)
     }
 }
 
 // The oldest message; empty and closed is the end, empty and open waits.
-fn receive(i: Instruction, process: Process, channel: Channel, message: i32) -> Stepped
-    requires { ⌜ (i .a < 8) × (process .position < 256) × (channel .oldest < 256) ⌝ }
-    ensures { λ r. ⌜ ((g : Bool) → r ≡ execute (receive (i .b) (λ v. assigned (i .a) v process) (jumped (i .c) process)) process channel message g) ⌝ }
+fn receive(i: Instruction, stance: Stance, channel: Channel, message: i32) -> Change
+    requires { ⌜ (stance .position < 256) × (channel .oldest < 256) ⌝ }
+    ensures { λ r. ⌜ ((g : Bool) → Means (i .a) stance r (λ q. execute (receive (i .b) (λ v. assigned (i .a) v q) (jumped (i .c) q)) q channel message g)) ⌝ }
 {
     if channel.held == 0 {
         if channel.closed {
-            return jump_to(process, channel, i.c);
+            return jump_to(stance, channel, i.c);
         }
-        return stay(process, channel, Outcome::WaitEmpty);
+        return stay(stance, channel, Outcome::WaitEmpty);
     }
-    assign(process, channel.get(), i.a, message)
+    assign(stance, channel.get(), message)
 }
 
 // A closed channel faults, full or not; one whose receiver has ended takes the message and does not store it.
-fn send(i: Instruction, process: Process, channel: Channel, gone: bool) -> Stepped
-    requires { ⌜ (i .a < 8) × (process .position < 256) × (channel .held ≤ channel .capacity) ⌝ }
-    ensures { λ r. ⌜ ((m : ℤ) → r ≡ execute (send (i .b) (registerOf process (i .a)) (onward (process .registers) process) (faulted process)) process channel m gone) ⌝ }
+fn send(stance: Stance, channel: Channel, gone: bool) -> Change
+    requires { ⌜ (stance .position < 256) × (channel .held ≤ channel .capacity) ⌝ }
+    ensures { λ r. ⌜ ((a b : ℕ) (m : ℤ) → Means a stance r (λ q. execute (send b (registerOf q a) (onward (q .registers) q) (faulted q)) q channel m gone)) ⌝ }
 {
     let closed = channel.closed;
     if closed {
-        return end(process, channel, Condition::Faulted);
+        return end(stance, channel, Condition::Faulted);
     }
     if gone {
-        return proceed(process, channel, Outcome::Moved);
+        return proceed(stance, channel, Outcome::Moved);
     }
     if channel.held == channel.capacity {
-        return stay(process, channel, Outcome::WaitFull);
+        return stay(stance, channel, Outcome::WaitFull);
     }
-    let registers = process.registers;
-    let v = register(registers, i.a);
-    proceed(process, channel.put(), Outcome::Sent(v))
+    proceed(stance, channel.put(), Outcome::Sent(stance.own))
 }
 
-fn close(i: Instruction, process: Process, channel: Channel) -> Stepped
-    requires { ⌜ process .position < 256 ⌝ }
-    ensures { λ r. ⌜ ((m : ℤ) (g : Bool) → r ≡ execute (close (i .b) (onward (process .registers) process) (faulted process)) process channel m g) ⌝ }
+fn close(stance: Stance, channel: Channel) -> Change
+    requires { ⌜ stance .position < 256 ⌝ }
+    ensures { λ r. ⌜ ((a b : ℕ) (m : ℤ) (g : Bool) → Means a stance r (λ q. execute (close b (onward (q .registers) q) (faulted q)) q channel m g)) ⌝ }
 {
     if channel.closed {
-        return end(process, channel, Condition::Faulted);
+        return end(stance, channel, Condition::Faulted);
     }
-    proceed(process, channel.close(), Outcome::Moved)
+    proceed(stance, channel.close(), Outcome::Moved)
 }
 
 // A live process's instruction, by its opcode; one above 13 faults. The caller has shown what it requires.
 pub fn execute(
     i: Instruction,
-    process: Process,
+    file: &[i32; 128],
+    base: usize,
+    stance: Stance,
     channel: Channel,
     message: i32,
     gone: bool,
-) -> Stepped
-    requires { ⌜ Steppable i process channel ⌝ }
-    ensures { λ r. ⌜ r ≡ execute (wantLive i process) process channel message gone ⌝ }
+) -> Change
+    requires { ⌜ Steppable i (now file) base stance channel ⌝ }
+    ensures { λ r. ⌜ ((moves : ℕ) → changed r (i .a) (inStance (window (now (file .entry)) base) stance moves) ≡ execute (wantLive i (inStance (window (now (file .entry)) base) stance moves)) (inStance (window (now (file .entry)) base) stance moves) channel message gone) ⌝ }
 {
     let op = i.op;
     match op {
-        0 => stop(process, channel),
-        1 => set(i, process, channel),
-        2 => copy(i, process, channel),
-        3 => add(i, process, channel),
-        4 => subtract(i, process, channel),
-        5 => multiply(i, process, channel),
-        6 => divide(i, process, channel),
-        7 => remainder(i, process, channel),
-        8 => jump(i, process, channel),
-        9 => jump_zero(i, process, channel),
-        10 => jump_negative(i, process, channel),
-        11 => receive(i, process, channel, message),
-        12 => send(i, process, channel, gone),
-        13 => close(i, process, channel),
-        _ => end(process, channel, Condition::Faulted),
+        0 => stop(stance, channel),
+        1 => set(i, stance, channel),
+        2 => copy(i, file, base, stance, channel),
+        3 => add(i, file, base, stance, channel),
+        4 => subtract(i, file, base, stance, channel),
+        5 => multiply(i, file, base, stance, channel),
+        6 => divide(i, file, base, stance, channel),
+        7 => remainder(i, file, base, stance, channel),
+        8 => jump(i, stance, channel),
+        9 => jump_zero(i, stance, channel),
+        10 => jump_negative(i, stance, channel),
+        11 => receive(i, stance, channel, message),
+        12 => send(stance, channel, gone),
+        13 => close(stance, channel),
+        _ => end(stance, channel, Condition::Faulted),
     }
 }

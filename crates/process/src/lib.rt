@@ -1,26 +1,19 @@
-// A process and a channel of a lane, and the execution of one instruction on these small values.
+// A channel of a lane, and the execution of one instruction of a process on small values: it answers what it changed.
 mod arms;
 
 use network::Instruction;
 ghost use mathlib.Core.Path.{_≡_};
 ghost use mathlib.Core.Bool.{Bool, true, false};
-ghost use Prim.Native.Nat.{_+_, _≤_, _<_};
+ghost use Prim.Native.Nat.{ℕ, _+_, _≤_, _<_};
 ghost use Rattle.process.specs.Channels.{putOne, getOne, closeOne, emptyOne, enlargeOne};
 ghost use Rattle.process.specs.Want.{counted};
-ghost use Rattle.process.specs.Execute.{stepOf, Steppable};
+ghost use Rattle.process.specs.Execute.{stepOf};
+ghost use Rattle.process.specs.Changes.{window, inStance, changed, Steppable};
 
 pub enum Condition {
     Live,
     Stopped,
     Faulted,
-}
-
-// A process: its registers, its position among its own instructions, its condition and how often it moved.
-pub struct Process {
-    pub registers: [i32; 8],
-    pub position: u16,
-    pub condition: Condition,
-    pub moves: u64,
 }
 
 // A channel: its capacity, the place of the oldest message (0 to 255), the number held, closed or open.
@@ -42,8 +35,19 @@ pub enum Outcome {
     Ended,
 }
 
-pub struct Stepped {
-    pub process: Process,
+// What a process brings to its instruction: the value of its register a, its position and its condition.
+pub struct Stance {
+    pub own: i32,
+    pub position: u16,
+    pub condition: Condition,
+}
+
+// What an instruction leaves, which changes no register but a: the value of that register, the position and the condition,
+// the record of its channel, and the outcome.
+pub struct Change {
+    pub value: i32,
+    pub position: u16,
+    pub condition: Condition,
     pub channel: Channel,
     pub outcome: Outcome,
 }
@@ -100,16 +104,24 @@ pub fn counted(n: u64) -> u64
     if n < 18446744073709551615 { n + 1 } else { n }
 }
 
-// One instruction of a process: the record of its channel b, the oldest message there, and whether that channel's
-// receiver has ended. Public for the crates above, which have shown what it requires.
-pub fn step(i: Instruction, process: Process, channel: Channel, message: i32, gone: bool) -> Stepped
-    requires { ⌜ Steppable i process channel ⌝ }
-    ensures { λ r. ⌜ r ≡ stepOf i process channel message gone ⌝ }
+// One instruction of a process whose registers lie in the file from a base on: the record of its channel b, the oldest message
+// there, and whether that channel's receiver has ended. Public for the crates above, which have shown what it requires.
+pub fn step(
+    i: Instruction,
+    file: &[i32; 128],
+    base: usize,
+    stance: Stance,
+    channel: Channel,
+    message: i32,
+    gone: bool,
+) -> Change
+    requires { ⌜ Steppable i (now file) base stance channel ⌝ }
+    ensures { λ r. ⌜ ((moves : ℕ) → changed r (i .a) (inStance (window (now (file .entry)) base) stance moves) ≡ stepOf i (inStance (window (now (file .entry)) base) stance moves) channel message gone) ⌝ }
 {
-    let condition = process.condition;
+    let condition = stance.condition;
     match condition {
-        Condition::Live => arms::execute(i, process, channel, message, gone),
-        Condition::Stopped => arms::stay(process, channel, Outcome::Ended),
-        Condition::Faulted => arms::stay(process, channel, Outcome::Ended),
+        Condition::Live => arms::execute(i, file, base, stance, channel, message, gone),
+        Condition::Stopped => arms::stay(stance, channel, Outcome::Ended),
+        Condition::Faulted => arms::stay(stance, channel, Outcome::Ended),
     }
 }

@@ -3,7 +3,7 @@
 -- Assumes nothing.
 use mathlib.Core.Path.{_≡_, refl, sym, ap, _∙_, fun-ext}
 use mathlib.Core.Bool.{Bool, true, false, cond}
-use mathlib.Core.List.{List, []}
+use mathlib.Core.List.{List, [], _∷_}
 use Prim.Native.Nat.{ℕ, zero, suc, _-_, _≤_, _<_}
 use native.Mathlib.Decide.{decLt}
 use native.Mathlib.Omega.{arith}
@@ -18,7 +18,7 @@ use Rattle.network.proofs.Conjunction.{both-true}
 use Rattle.network.proofs.Passed.{passed}
 use Rattle.process.specs.declared.Condition.{Condition}
 use Rattle.process.specs.declared.Condition.the-variants.{Live, Stopped, Faulted}
-use Rattle.process.specs.declared.Process.{Process}
+use Rattle.process.specs.Process.{Process}
 use Rattle.process.specs.declared.Channel.{Channel}
 use Rattle.process.specs.declared.Outcome.{Outcome}
 use Rattle.process.specs.declared.Outcome.the-variants.{Moved, Sent, Halted, WaitEmpty, WaitFull, Ended}
@@ -27,8 +27,9 @@ use Rattle.process.specs.Intent.{Intent, idle, inner, receive, send, close, hal
 use Rattle.process.specs.Want.{want, wantIn, wantLive}
 use Rattle.process.specs.Execute.{outcome, execute, stepOf}
 use Rattle.lane.specs.declared.Lane.{Lane}
+use Rattle.lane.specs.declared.Ran.{Ran}
 use Rattle.lane.specs.State.{world, noInstruction, standingOf, processOf, channelOf, standsAt}
-use Rattle.lane.specs.Pick.{channelIn, instructionFor, stepAt, stepFor}
+use Rattle.lane.specs.Pick.{channelIn, instructionFor, stepAt, stepFor, Progress, pickNext, pickAll, unpicked, progressOf}
 use Rattle.lane.proofs.SoundLaws.{Sound, at-good}
 use Rattle.relief.specs.declared.Wait.{Wait}
 use Rattle.relief.specs.Waits.{free, waitIn, waitOf, otherEnd, roomIn, channelWaited, pointing, fullWait, waitsAt}
@@ -58,10 +59,27 @@ pub step-outcome : (i : Instruction) (q : Process) (h : Channel) (m m′ : ℤ) 
 unfolding stepOf
 step-outcome i q h m m′ gone = execute-outcome (want i q) q h m m′ gone
 
+-- of a pick
+pub outcome-any : (l : Lane) (cells cells′ : List ℤ) (p : ℕ) → stepFor p (world l cells) .outcome ≡ stepFor p (world l cells′) .outcome
+unfolding stepAt
+outcome-any l cells cells′ p = step-outcome (instructionFor p l) _ _ _ _ _
+
+-- what the pick of a process foresees, with these cells or none
+pub pick-foresees :
+    (l : Lane) (cells cells′ : List ℤ) (p : ℕ) (r : Ran) → progressOf r cells′ ≡ pickAll (p ∷ []) (unpicked (world l cells))
+    → (r .last ≡ stepFor p (world l []) .outcome) × (r .channel ≡ channelIn (instructionFor p l))
+unfolding pickNext
+pick-foresees l cells cells′ p r e = (ap (λ (g : Progress). g .last) e ∙ outcome-any l cells [] p, ap (λ (g : Progress). g .channel) e)
+
+-- one pick that names a process
+pub one-pick : (p n : ℕ) → p < n → (k : ℕ) → k < 1 → getD (p ∷ []) k 0 < n
+one-pick p n h zero l = h
+one-pick p n h (suc k) l = absurd (omega arith)
+
 -- of a process: it waits exactly as a pick with these cells would have it
 pub wait-any : (l : Lane) (cells : List ℤ) (p : ℕ) → waitOf l p ≡ waitIn (stepFor p (world l cells) .outcome) (channelIn (instructionFor p l))
-unfolding waitOf stepAt
-wait-any l cells p = ap (λ (o : Outcome). waitIn o (channelIn (instructionFor p l))) (step-outcome (instructionFor p l) _ _ _ _ _)
+unfolding waitOf
+wait-any l cells p = ap (λ (o : Outcome). waitIn o (channelIn (instructionFor p l))) (outcome-any l [] cells p)
 
 -- ---- what the code gathers
 from : (l : Lane) (o : Outcome) (c : ℕ) →

@@ -41,25 +41,19 @@ fn wait_in(outcome: Outcome, c: u8, sender: u8, receiver: u8, capacity: u16) -> 
     }
 }
 
-// What process p would do if picked, and at which channel, without a message: whether it waits does not hang on one. Public for the bench.
+// What process p would do if picked, and at which channel: a pick on a copy of the lane, with cells of its own. They hold no message:
+// whether it waits does not hang on one. Public for the bench.
 pub fn foresee(lane: Lane, p: usize) -> Foreseen
     requires { ⌜ (soundOf lane ≡ true) × (p < lane .network .processes) ⌝ }
     ensures { λ r. ⌜ (r .outcome ≡ stepFor p (world lane []) .outcome) × (r .channel ≡ channelIn (instructionFor p lane)) ⌝ }
 {
-    let net = lane.network;
-    let standing = lane.processes[p];
-    let at = lane_picks::place(net.first[p], standing.position);
-    let instruction = network::fetch(&net.code, at);
-    let process = lane_picks::join(lane_picks::window(&lane.registers, p), standing);
-    let c = lane_picks::channel_of(instruction);
-    let h = lane.channels[c];
-    let e = lane_picks::end(net.receiver[c]);
-    let gone = lane_sound::ended_if(e, lane.processes[e % 16]);
-    let stepped = process::step(instruction, process, h, 0, gone);
-    let outcome = stepped.outcome;
+    let mut cells = [0i32; 8192];
+    let picks = [p as u8];
+    let ran = lane_picks::pick_all(lane, &mut cells, &picks);
+    let outcome = ran.last;
     Foreseen {
         outcome,
-        channel: c,
+        channel: ran.channel,
     }
 }
 

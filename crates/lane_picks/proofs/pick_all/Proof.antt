@@ -6,21 +6,22 @@ use native.Mathlib.Omega.{arith}
 use mathlib.Core.Path.{_≡_, refl, sym, ap, _∙_}
 use mathlib.Core.Bool.{cond}
 use mathlib.Core.List.{List}
-use Prim.Native.Nat.{_+_, _-_}
+use Prim.Native.Nat.{_+_, _-_, _<_}
 use lib.IntN.{pos}
 use lib.ListN.{length, getD, set, length-map}
 use mir.Syntax.{w32}
-use mir.Val.{SFits, toZ, ofZ}
+use mir.Val.{SFits}
 use mir.Facts.{toZ-ofZ}
 use Rattle.process.specs.declared.Channel.{Channel}
+use Rattle.process.specs.Changes.{changed}
 use Rattle.process.specs.declared.Outcome.the-variants.{Ended}
-use Rattle.lane.specs.State.{world}
+use Rattle.lane.specs.State.{world, processOf}
 use Rattle.lane.specs.Pick.{channelIn, dropFrom, instructionFor, stepFor}
 use Rattle.lane_picks.specs.Turn.{isHalted}
 use Rattle.lane.proofs.Shape.{Shaped}
 use Rattle.lane.proofs.SoundLaws.{sound-says}
 use Rattle.lane_picks.proofs.Drop.{drop-is}
-use Rattle.lane_picks.proofs.Turn.{progress, Partway, Next, next, instruction-is, steppable, step-is, pick-is, partway-more, partway-all, channels-low, cond-yes, cond-no}
+use Rattle.lane_picks.proofs.Turn.{progress, Partway, Next, next, stanceIn, instruction-is, a-low, steppable, step-is, pick-is, partway-more, partway-all, channels-low, cond-yes, cond-no}
 use Rattle.lane_picks.proofs.pick_all.Statement.{statement}
 use Rattle.lane_picks.proofs.pick_all.Tie as tie
 
@@ -33,25 +34,31 @@ abbrev μ-loop : tie.MeasureT-loop
 
 -- ---- earlier places of a turn, from its step on
 abbrev start-of : tie.After-step Inv-loop μ-loop → tie.Start Inv-loop μ-loop
-start-of c = c .before .before .before .before .before .before .before .before .before .before .before .before .before .before .before .before .before .before .before .before .before .before .before .before .before
+start-of c = c .before .before .before .before .before .before .before .before .before .before .before .before .before .before .before .before .before .before .before .before .before .before .before .before .before .before .before
 
 abbrev loop-of : tie.After-step Inv-loop μ-loop → tie.At-loop Inv-loop μ-loop
-loop-of c = c .before .before .before .before .before .before .before .before .before .before .before .before .before .before .before .before .before .before .before .before .before .before
+loop-of c = c .before .before .before .before .before .before .before .before .before .before .before .before .before .before .before .before .before .before .before .before .before .before .before .before
 
 abbrev test-of : tie.After-step Inv-loop μ-loop → tie.In-loop Inv-loop μ-loop
-test-of c = c .before .before .before .before .before .before .before .before .before .before .before .before .before .before .before .before .before .before .before .before .before
+test-of c = c .before .before .before .before .before .before .before .before .before .before .before .before .before .before .before .before .before .before .before .before .before .before .before
 
 abbrev number-of : tie.After-step Inv-loop μ-loop → tie.After-number Inv-loop μ-loop
-number-of c = c .before .before .before .before .before .before .before .before .before .before .before .before .before .before .before .before .before .before .before
+number-of c = c .before .before .before .before .before .before .before .before .before .before .before .before .before .before .before .before .before .before .before .before .before
 
 abbrev fetch-of : tie.After-step Inv-loop μ-loop → tie.After-fetch Inv-loop μ-loop
-fetch-of c = c .before .before .before .before .before .before .before .before .before .before .before .before .before
+fetch-of c = c .before .before .before .before .before .before .before .before .before .before .before .before .before .before .before
+
+abbrev own-at : tie.After-step Inv-loop μ-loop → tie.After-own-of Inv-loop μ-loop
+own-at c = c .before .before .before .before .before .before .before .before .before .before .before .before .before .before
+
+abbrev stance-at : tie.After-step Inv-loop μ-loop → tie.After-stance-of Inv-loop μ-loop
+stance-at c = c .before .before .before .before .before .before .before .before .before .before .before .before
 
 abbrev channel-at : tie.After-step Inv-loop μ-loop → tie.After-channel-of Inv-loop μ-loop
-channel-at c = c .before .before .before .before .before .before .before .before
+channel-at c = c .before .before .before .before .before .before .before .before .before .before .before
 
 abbrev step-of : tie.After-halted Inv-loop μ-loop → tie.After-step Inv-loop μ-loop
-step-of c = c .before .before .before .before .before .before .before .before .before
+step-of c = c .before .before .before .before .before .before .before .before .before .before .before
 
 -- ---- what is known at a place
 -- at the entry: the lengths of the lane's arrays
@@ -73,50 +80,64 @@ stands c =
     let o = c .before .before .before .before .before .before .before .before .before .loop in
     instruction-is (o .l) _ (o .inv .same) (here (c .before .before .before .before .before .before) .position) (c .before .before .before .place .ensures .0) (c .fetch .ensures)
 
+-- its field a is a register, or zero
+low : (c : tie.After-fetch Inv-loop μ-loop) → c .fetch .result .a < 8
+low c = a-low (c .before .before .before .before .before .before .before .before .before .loop .l) _ (c .before .before .before .before .before .before .before .before .before .loop .inv .sound) (here (c .before .before .before .before .before .before)) (stands c)
+
+-- what it brings to its instruction
+stance : (c : tie.After-stance-of Inv-loop μ-loop) → c .stance-of .result ≡ stanceIn (c .before .before .before .before .before .before .before .before .before .before .before .before .loop .l) (c .before .before .before .before .before .before .before .before .before .number .result) (c .before .before .own-of .result)
+stance c =
+    let f : SFits w32 (getD (c .before .before .before .before .before .before .before .before .before .before .before .before .loop .l .registers) (c .before .before .own-of .result) (pos 0)) = record { sfits = c .before .stance-of-arg .given } in
+    rw (toZ-ofZ f) at (c .stance-of .ensures)
+
 -- the step that it takes
-stepped : (c : tie.After-step Inv-loop μ-loop) → c .step .result ≡ stepFor (number-of c .number .result) (world (loop-of c .loop .l) (loop-of c .loop .cells))
+stepped : (c : tie.After-step Inv-loop μ-loop) → changed (c .step .result) (fetch-of c .fetch .result .a) (processOf (loop-of c .loop .l) (number-of c .number .result)) ≡ stepFor (number-of c .number .result) (world (loop-of c .loop .l) (loop-of c .loop .cells))
 stepped c =
     let o = loop-of c .loop in
-    let k = (channel-at c) in
-    let h : SFits w32 (getD (o .cells) (c .before .before .slot .result) (pos 0)) = record { sfits = c .before .step-arg .given } in
-    step-is (o .l) (o .cells) _ (o .inv .same) (o .inv .shaped .processes) (stands (fetch-of c)) (k .before .before .window .ensures) (k .before .join .ensures)
-    (k .channel-of .ensures .0)
-    (c .before .before .before .before .before .end .ensures)
-    (c .before .before .before .ended-if .ensures)
-    (c .before .before .slot .ensures .0)
-    (rw (toZ-ofZ h) at (c .step .ensures))
+    let f : SFits w32 (getD (o .cells) (c .before .before .before .before .before .slot .result) (pos 0)) = record { sfits = c .before .before .before .before .next .given } in
+    step-is (o .l) (o .cells) _ (own-at c .own-of .result) (c .step .result) (o .inv .same) (o .inv .shaped .processes) (o .inv .shaped .registers) (number-of c .number .ensures .1) (stands (fetch-of c))
+    (c .before .base-of .ensures .0)
+    (stance (stance-at c))
+    (channel-at c .channel-of .ensures .0)
+    (c .before .before .before .before .before .before .before .before .end .ensures)
+    (c .before .before .before .before .before .before .ended-if .ensures)
+    (c .before .before .before .before .before .slot .ensures .0)
+    (rw (toZ-ofZ f) at (c .step .ensures))
+
+-- the channels after the step
+abbrev channels-of : tie.After-halted Inv-loop μ-loop → List Channel
+channels-of c = set (loop-of (step-of c) .loop .l .channels) (channel-at (step-of c) .channel-of .result) (c .before .before .before .before .before .before .channel-after .result)
 
 -- the turn, with the channels hs that it leaves
 turned :
     (c : tie.After-halted Inv-loop μ-loop) {hs : List Channel}
-    → hs
-    ≡ cond (isHalted (step-of c .step .result .outcome))
-    (dropFrom (loop-of (step-of c) .loop .l .network) (number-of (step-of c) .number .result) 0 (set (loop-of (step-of c) .loop .l .channels) (channel-at (step-of c) .channel-of .result) (step-of c .step .result .channel)))
-    (set (loop-of (step-of c) .loop .l .channels) (channel-at (step-of c) .channel-of .result) (step-of c .step .result .channel))
+    → hs ≡ cond (isHalted (step-of c .step .result .outcome)) (dropFrom (loop-of (step-of c) .loop .l .network) (number-of (step-of c) .number .result) 0 (channels-of c)) (channels-of c)
     → Partway (start-of (step-of c) .args .picks .now) (progress (start-of (step-of c) .args .lane) (start-of (step-of c) .args .cells .now) 0 Ended 0) (loop-of (step-of c) .loop .i + 1) (start-of (step-of c) .args .lane .network)
     (progress
     (record {
       network = loop-of (step-of c) .loop .l .network;
-      registers = c .before .before .before .before .before .before .before .put-window .last .0;
-      processes = set (loop-of (step-of c) .loop .l .processes) (number-of (step-of c) .number .result) (c .before .before .before .before .before .before .split .result);
+      registers = c .before .before .before .before .before .before .before .before .before .put-register .last .0;
+      processes = set (loop-of (step-of c) .loop .l .processes) (number-of (step-of c) .number .result) (c .before .before .before .before .before .before .before .standing-after .result);
       channels = hs;
       accepted = loop-of (step-of c) .loop .l .accepted;
     })
-    (set (loop-of (step-of c) .loop .cells) (c .before .before .before .before .slot2 .result) (toZ w32 (ofZ w32 (c .before .before .word .result))))
+    (c .before .before .before .put-message .last .0)
     (loop-of (step-of c) .loop .moved + c .before .gained .result)
     (step-of c .step .result .outcome)
     (channel-at (step-of c) .channel-of .result))
 turned c e =
     let s = (step-of c) in
     let o = loop-of s .loop in
-    let g : SFits w32 (getD (o .cells) (c .before .before .before .before .slot2 .result) (pos 0)) = record { sfits = c .before .before .before .word-arg .given } in
-    let w : SFits w32 (c .before .before .word .result) = record { sfits = c .before .before .word .ok } in
     partway-more (o .inv) (test-of s .loop-test .taken)
-    (pick-is (o .l) (o .cells) _ _ _ (number-of s .number .ensures .0) (channel-at s .channel-of .ensures .0 ∙ ap channelIn (stands (fetch-of s))) (stepped s)
-    (c .before .before .before .before .before .before .before .put-window .ensures)
-    (c .before .before .before .before .before .before .split .ensures)
+    (pick-is (o .l) (o .cells) _ _ _ (fetch-of s .fetch .result .a) (s .step .result) (o .inv .shaped .registers) (number-of s .number .ensures .1) (low (fetch-of s)) (number-of s .number .ensures .0)
+    (channel-at s .channel-of .ensures .0 ∙ ap channelIn (stands (fetch-of s)))
+    (stepped s)
+    (own-at s .own-of .ensures .0)
+    (c .before .before .before .before .before .before .before .before .before .put-register .ensures)
+    (c .before .before .before .before .before .before .before .standing-after .ensures)
+    (c .before .before .before .before .before .before .channel-after .ensures)
     (c .before .before .before .before .slot2 .ensures .0)
-    (toZ-ofZ w ∙ (rw (toZ-ofZ g) at (c .before .before .word .ensures)))
+    (c .before .before .before .put-message .ensures)
     (c .before .gained .ensures .0)
     e)
 
@@ -160,11 +181,17 @@ place-requires c κs = here (c .before .before) .place
 fetch-requires : tie.Need-fetch-requires Inv-loop μ-loop
 fetch-requires c κs = search needs
 
-window-requires : tie.Need-window-requires Inv-loop μ-loop
-window-requires c κs = search needs
+own-of-requires : tie.Need-own-of-requires Inv-loop μ-loop
+own-of-requires c κs = (c .before .before .before .before .before .before .number .ensures .1, low c)
 
-join-requires : tie.Need-join-requires Inv-loop μ-loop
-join-requires c κs = search needs
+mul-stance-of : tie.Need-mul-stance-of Inv-loop μ-loop
+mul-stance-of c = search needs
+
+element-copy-out-stance-of : tie.Need-element-copy-out-stance-of Inv-loop μ-loop
+element-copy-out-stance-of c = search needs
+
+stance-of-requires : tie.Need-stance-of-requires Inv-loop μ-loop
+stance-of-requires c κs = search needs
 
 channel-of-requires : tie.Need-channel-of-requires Inv-loop μ-loop
 channel-of-requires c κs = search needs
@@ -193,63 +220,65 @@ ended-if-requires c κs = search needs
 slot-requires : tie.Need-slot-requires Inv-loop μ-loop
 slot-requires c κs = search needs
 
-mul-step : tie.Need-mul-step Inv-loop μ-loop
-mul-step c = search needs
+mul-next : tie.Need-mul-next Inv-loop μ-loop
+mul-next c = search needs
 
-slice-copy-out-step : tie.Need-slice-copy-out-step Inv-loop μ-loop
-slice-copy-out-step c = omega (arith, c .slot .ensures .1, c .before .before .before .before .before .before .before .before .before .before .before .before .before .before .before .before .before .before .before .before .loop .inv .long)
+slice-copy-out-next : tie.Need-slice-copy-out-next Inv-loop μ-loop
+slice-copy-out-next c = omega (arith, c .slot .ensures .1, c .before .before .before .before .before .before .before .before .before .before .before .before .before .before .before .before .before .before .before .loop .inv .long)
+
+base-of-requires : tie.Need-base-of-requires Inv-loop μ-loop
+base-of-requires c κs = search needs
 
 step-requires : tie.Need-step-requires Inv-loop μ-loop
 step-requires c κs =
-    let o = c .before .before .before .before .before .before .before .before .before .before .before .before .before .before .before .before .before .before .before .before .before .loop in
-    let k = (c .before .before .before .before .before .before .before) in
-    steppable (o .l) _ (o .inv .sound) (here (c .before .before .before .before .before .before .before .before .before .before .before .before .before .before .before .before .before .before)) (stands (c .before .before .before .before .before .before .before .before .before .before .before .before)) (k .before .before .window .ensures) (k .before .join .ensures)
-    (k .channel-of .ensures .0)
+    let o = c .before .before .before .before .before .before .before .before .before .before .before .before .before .before .before .before .before .before .before .before .before .before .before .loop in
+    steppable (o .l) _ (c .before .before .before .before .before .before .before .before .before .before .before .before .before .own-of .result) (o .inv .sound) (here (c .before .before .before .before .before .before .before .before .before .before .before .before .before .before .before .before .before .before .before .before)) (stands (c .before .before .before .before .before .before .before .before .before .before .before .before .before .before))
+    (c .base-of .ensures .0)
+    (c .before .before .before .before .before .before .before .before .before .before .before .before .before .own-of .ensures .0)
+    (stance (c .before .before .before .before .before .before .before .before .before .before .before))
+    (c .before .before .before .before .before .before .before .before .before .before .channel-of .ensures .0)
 
-put-window-requires : tie.Need-put-window-requires Inv-loop μ-loop
-put-window-requires c κs = number-of (c .before) .number .ensures .1
+put-register-requires : tie.Need-put-register-requires Inv-loop μ-loop
+put-register-requires c κs = search needs
 
-split-requires : tie.Need-split-requires Inv-loop μ-loop
-split-requires c κs = search needs
+mul-standing-after : tie.Need-mul-standing-after Inv-loop μ-loop
+mul-standing-after c = omega (arith, c .before .before .before .before .before .before .before .before .before .before .before .before .before .before .before .before .before .before .before .before .before .before .before .number .ensures .1)
 
-mul-t22 : tie.Need-mul-t22 Inv-loop μ-loop
-mul-t22 c = omega (arith, number-of (c .before .before .before) .number .ensures .1)
+element-copy-out-standing-after : tie.Need-element-copy-out-standing-after Inv-loop μ-loop
+element-copy-out-standing-after c = omega (arith, c .before .before .before .before .before .before .before .before .before .before .before .before .before .before .before .before .before .before .before .before .before .before .before .number .ensures .1)
+
+standing-after-requires : tie.Need-standing-after-requires Inv-loop μ-loop
+standing-after-requires c κs = search needs
+
+mul-after : tie.Need-mul-after Inv-loop μ-loop
+mul-after c = omega (arith, c .before .before .before .before .before .before .before .before .before .before .before .before .before .before .before .before .before .before .before .before .before .before .before .before .before .number .ensures .1)
+
+element-set-from-after : tie.Need-element-set-from-after Inv-loop μ-loop
+element-set-from-after c = omega (arith, c .before .before .before .before .before .before .before .before .before .before .before .before .before .before .before .before .before .before .before .before .before .before .before .before .before .number .ensures .1)
+
+channel-after-requires : tie.Need-channel-after-requires Inv-loop μ-loop
+channel-after-requires c κs = search needs
+
+mul-t23 : tie.Need-mul-t23 Inv-loop μ-loop
+mul-t23 c = omega (arith, c .before .before .before .before .before .before .before .before .before .before .before .before .before .before .before .before .channel-of .ensures .1)
 
 element-set-from-l : tie.Need-element-set-from-l Inv-loop μ-loop
-element-set-from-l c = omega (arith, number-of (c .before .before .before) .number .ensures .1)
-
-mul-kept : tie.Need-mul-kept Inv-loop μ-loop
-mul-kept c = omega (arith, channel-at (c .before .before .before .before) .channel-of .ensures .1)
-
-element-set-from-kept : tie.Need-element-set-from-kept Inv-loop μ-loop
-element-set-from-kept c = omega (arith, channel-at (c .before .before .before .before) .channel-of .ensures .1)
+element-set-from-l c = omega (arith, c .before .before .before .before .before .before .before .before .before .before .before .before .before .before .before .before .channel-of .ensures .1)
 
 slot-requires-2 : tie.Need-slot-requires-2 Inv-loop μ-loop
-slot-requires-2 c κs = channel-at (c .before .before .before .before) .channel-of .ensures .1
+slot-requires-2 c κs = c .before .before .before .before .before .before .before .before .before .before .before .before .before .before .before .before .before .channel-of .ensures .1
 
-mul-word : tie.Need-mul-word Inv-loop μ-loop
-mul-word c = search needs
-
-slice-copy-out-word : tie.Need-slice-copy-out-word Inv-loop μ-loop
-slice-copy-out-word c = omega (arith, c .slot2 .ensures .1, loop-of (c .before .before .before .before .before) .loop .inv .long)
-
-word-requires : tie.Need-word-requires Inv-loop μ-loop
-word-requires c κs = search needs
-
-mul-t22-2 : tie.Need-mul-t22-2 Inv-loop μ-loop
-mul-t22-2 c = omega (arith, c .before .before .slot2 .ensures .1)
-
-slice-set-from-cells : tie.Need-slice-set-from-cells Inv-loop μ-loop
-slice-set-from-cells c = omega (arith, c .before .before .slot2 .ensures .1, loop-of (c .before .before .before .before .before .before .before) .loop .inv .long)
+put-message-requires : tie.Need-put-message-requires Inv-loop μ-loop
+put-message-requires c κs = omega (arith, c .slot2 .ensures .1, c .before .before .before .before .before .before .before .before .before .before .before .before .before .before .before .before .before .before .before .before .before .before .before .before .before .before .before .before .before .before .before .loop .inv .long)
 
 gained-requires : tie.Need-gained-requires Inv-loop μ-loop
 gained-requires c κs = search needs
 
 add-moved : tie.Need-add-moved Inv-loop μ-loop
-add-moved c = omega (arith, c .gained .ensures .1, loop-of (c .before .before .before .before .before .before .before .before) .loop .inv .few, test-of (c .before .before .before .before .before .before .before .before) .loop-test .taken, start-of (c .before .before .before .before .before .before .before .before) .good .1 .1 .0 .0)
+add-moved c = omega (arith, c .gained .ensures .1, c .before .before .before .before .before .before .before .before .before .before .before .before .before .before .before .before .before .before .before .before .before .before .before .before .before .before .before .before .before .before .before .before .before .before .loop .inv .few, c .before .before .before .before .before .before .before .before .before .before .before .before .before .before .before .before .before .before .before .before .before .before .before .before .before .before .before .before .before .before .before .before .before .loop-test .taken, c .before .before .before .before .before .before .before .before .before .before .before .before .before .before .before .before .before .before .before .before .before .before .before .before .before .before .before .before .before .before .before .before .before .before .before .before .before .good .1 .1 .0 .0)
 
 add-i : tie.Need-add-i Inv-loop μ-loop
-add-i c = omega (arith, test-of (c .before .before .before .before .before .before .before .before) .loop-test .taken, start-of (c .before .before .before .before .before .before .before .before) .good .1 .1 .0 .0)
+add-i c = omega (arith, c .before .before .before .before .before .before .before .before .before .before .before .before .before .before .before .before .before .before .before .before .before .before .before .before .before .before .before .before .before .before .before .before .before .loop-test .taken, c .before .before .before .before .before .before .before .before .before .before .before .before .before .before .before .before .before .before .before .before .before .before .before .before .before .before .before .before .before .before .before .before .before .before .before .before .before .good .1 .1 .0 .0)
 
 halted-requires : tie.Need-halted-requires Inv-loop μ-loop
 halted-requires c κs = search needs
@@ -264,10 +293,9 @@ loop-again : tie.Need-loop-again Inv-loop μ-loop
 loop-again c =
     let d = (c .before .before .before .before .before .before) in
     let s = step-of d in
-    let hs = set (loop-of s .loop .l .channels) (channel-at s .channel-of .result) (s .step .result .channel) in
     turned d
-    (cond-yes hs (d .halted .ensures) (c .before .before .before .before .before .if1 .taken)
-    (drop-is _ _ (number-of s .number .result) hs (loop-of s .loop .inv .same) (c .drop-all .ensures)))
+    (cond-yes (channels-of d) (d .halted .ensures) (c .before .before .before .before .before .if1 .taken)
+    (drop-is _ _ (number-of s .number .result) (channels-of d) (loop-of s .loop .inv .same) (c .drop-all .ensures)))
 
 loop-less-2 : tie.Need-loop-less-2 Inv-loop μ-loop
 loop-less-2 c = omega (arith, test-of (step-of (c .before)) .loop-test .taken)
@@ -296,8 +324,10 @@ pick-all-spec =
     element-copy-out-place
     place-requires
     fetch-requires
-    window-requires
-    join-requires
+    own-of-requires
+    mul-stance-of
+    element-copy-out-stance-of
+    stance-of-requires
     channel-of-requires
     mul-h
     element-copy-out-h
@@ -307,21 +337,21 @@ pick-all-spec =
     element-copy-out-ended-if
     ended-if-requires
     slot-requires
-    mul-step
-    slice-copy-out-step
+    mul-next
+    slice-copy-out-next
+    base-of-requires
     step-requires
-    put-window-requires
-    split-requires
-    mul-t22
+    put-register-requires
+    mul-standing-after
+    element-copy-out-standing-after
+    standing-after-requires
+    mul-after
+    element-set-from-after
+    channel-after-requires
+    mul-t23
     element-set-from-l
-    mul-kept
-    element-set-from-kept
     slot-requires-2
-    mul-word
-    slice-copy-out-word
-    word-requires
-    mul-t22-2
-    slice-set-from-cells
+    put-message-requires
     gained-requires
     add-moved
     add-i

@@ -4,6 +4,8 @@ use mir.Facts.{toZ-ofZ}
 use borrow.Author.Needs.{needs}
 use Rattle.process.specs.Execute.{execute, stepOf}
 use Rattle.process.specs.Want.{want}
+use Rattle.process.specs.Changes.{changed}
+use Rattle.process.proofs.Fields.{kept, at-hand}
 use Rattle.process.proofs.step.Statement.{statement}
 use Rattle.process.proofs.step.Tie as tie
 
@@ -27,15 +29,15 @@ stay-requires-2 c κs = search needs
 
 returns : tie.Need-returns
 unfolding stepOf want
-returns c = rw (c .execute .ensures, toZ-ofZ (c .before .before .before .fits .message), c .before .enum-told .given .1)
+returns c = λ moves. rw (c .execute .ensures moves, toZ-ofZ (c .before .before .before .fits .message), c .before .enum-told .given .1)
 
 returns-2 : tie.Need-returns-2
-unfolding stepOf want execute
-returns-2 c = rw (c .stay .ensures, c .before .enum-told2 .given .1)
+unfolding stepOf want execute changed
+returns-2 c = λ moves. rw (c .stay .ensures, kept _ _ (at-hand (c .before .before .before .pre)), c .before .enum-told2 .given .1)
 
 returns-3 : tie.Need-returns-3
-unfolding stepOf want execute
-returns-3 c = rw (c .stay2 .ensures, c .before .enum-told3 .given .1)
+unfolding stepOf want execute changed
+returns-3 c = λ moves. rw (c .stay2 .ensures, kept _ _ (at-hand (c .before .before .before .pre)), c .before .enum-told3 .given .1)
 
 pub step-spec : {M : Type 1} → statement M
 step-spec =

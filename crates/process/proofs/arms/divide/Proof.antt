@@ -20,10 +20,10 @@ put-divided-requires c κs = search needs
 
 returns : tie.Need-returns
 returns c =
-    λ m g.
+    λ m g registers moves h.
     let x = c .before .before .before .register in
     let y = c .before .before .register2 in
-    rw (c .put-divided .ensures m g, c .before .quotient .ensures, operands quotientOf (record { sfits = x .ok }) (record { sfits = y .ok }) (x .ensures) (y .ensures))
+    rw (c .put-divided .ensures _ m g registers moves h, c .before .quotient .ensures, operands quotientOf (record { sfits = x .ok }) (record { sfits = y .ok }) (x .ensures) (y .ensures))
 
 pub divide-spec : {M : Type 1} → statement M
 divide-spec =

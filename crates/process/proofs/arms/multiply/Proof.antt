@@ -6,6 +6,7 @@ use mir.Val.{SFits}
 use borrow.Author.Needs.{needs}
 use Rattle.arithmetic.specs.Wrap.{productOf}
 use Rattle.process.proofs.Numbers.{operands}
+use Rattle.process.specs.Changes.{changed}
 use Rattle.process.proofs.arms.multiply.Statement.{statement}
 use Rattle.process.proofs.arms.multiply.Tie as tie
 
@@ -22,12 +23,14 @@ assign-requires : tie.Need-assign-requires
 assign-requires c κs = search needs
 
 returns : tie.Need-returns
+unfolding changed
 returns c =
+    λ registers moves h.
     let x = c .before .before .before .register in
     let y = c .before .before .register2 in
     let z = c .before .product in
-    let h : SFits w32 (z .result) = record { sfits = z .ok } in
-    rw (c .assign .ensures, toZ-ofZ h, z .ensures, operands productOf (record { sfits = x .ok }) (record { sfits = y .ok }) (x .ensures) (y .ensures))
+    let f : SFits w32 (z .result) = record { sfits = z .ok } in
+    rw (c .assign .ensures, toZ-ofZ f, z .ensures, operands productOf (record { sfits = x .ok }) (record { sfits = y .ok }) (x .ensures) (y .ensures))
 
 pub multiply-spec : {M : Type 1} → statement M
 multiply-spec =

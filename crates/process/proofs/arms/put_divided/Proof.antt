@@ -5,6 +5,8 @@ use mir.Syntax.{w32}
 use mir.Val.{SFits}
 use borrow.Author.Needs.{needs}
 use Rattle.process.specs.Execute.{execute}
+use Rattle.process.specs.Changes.{changed}
+use Rattle.process.proofs.Fields.{kept}
 use Rattle.process.proofs.arms.put_divided.Statement.{statement}
 use Rattle.process.proofs.arms.put_divided.Tie as tie
 
@@ -21,16 +23,16 @@ end-requires : tie.Need-end-requires
 end-requires c κs = search needs
 
 returns : tie.Need-returns
-unfolding execute
+unfolding execute changed
 returns c =
-    λ m g.
+    λ a m g registers moves h.
     let d = c .before .before .d .given in
-    let h : SFits w32 (d .0 .0) = record { sfits = c .before .known-told .given .0 .1 } in
-    rw (c .assign .ensures, d .1, toZ-ofZ h)
+    let f : SFits w32 (d .0 .0) = record { sfits = c .before .known-told .given .0 .1 } in
+    rw (c .assign .ensures, d .1, toZ-ofZ f)
 
 returns-2 : tie.Need-returns-2
-unfolding execute
-returns-2 c = λ m g. rw (c .end .ensures, c .before .enum-told .given .1)
+unfolding execute changed
+returns-2 c = λ a m g registers moves h. rw (c .end .ensures, kept registers _ h, c .before .enum-told .given .1)
 
 pub put-divided-spec : {M : Type 1} → statement M
 put-divided-spec =

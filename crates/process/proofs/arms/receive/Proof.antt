@@ -1,9 +1,11 @@
 -- `process::arms::receive` meets its contract: the end, a wait, the oldest message.
 -- Assumes nothing.
+use Rattle.process.proofs.Fields.{kept}
+use Rattle.process.specs.Changes.{changed}
+use Rattle.process.specs.Execute.{execute}
+use borrow.Author.Tests.{eq-eqb, ne-eqb}
 use mir.Facts.{toZ-ofZ}
 use borrow.Author.Needs.{needs}
-use borrow.Author.Tests.{eq-eqb, ne-eqb}
-use Rattle.process.specs.Execute.{execute}
 use Rattle.process.proofs.arms.receive.Statement.{statement}
 use Rattle.process.proofs.arms.receive.Tie as tie
 
@@ -11,15 +13,15 @@ jump-to-requires : tie.Need-jump-to-requires
 jump-to-requires c κs = search needs
 
 returns : tie.Need-returns
-unfolding execute
-returns c = λ g. rw (c .jump-to .ensures, eq-eqb _ _ (c .before .before .if1 .taken), c .before .if2 .taken)
+unfolding execute changed
+returns c = λ g registers moves h. rw (c .jump-to .ensures, kept registers _ h, eq-eqb _ _ (c .before .before .if1 .taken), c .before .if2 .taken)
 
 stay-requires : tie.Need-stay-requires
 stay-requires c κs = search needs
 
 returns-2 : tie.Need-returns-2
-unfolding execute
-returns-2 c = λ g. rw (c .stay .ensures, eq-eqb _ _ (c .before .before .if1 .taken), c .before .if2 .left)
+unfolding execute changed
+returns-2 c = λ g registers moves h. rw (c .stay .ensures, kept registers _ h, eq-eqb _ _ (c .before .before .if1 .taken), c .before .if2 .left)
 
 get-requires : tie.Need-get-requires
 get-requires c κs = search needs
@@ -28,9 +30,10 @@ assign-requires : tie.Need-assign-requires
 assign-requires c κs = search needs
 
 returns-3 : tie.Need-returns-3
-unfolding execute
+unfolding execute changed
 returns-3 c =
-    λ g. rw (c .assign .ensures, c .before .get .ensures, toZ-ofZ (c .before .before .before .before .fits .message), ne-eqb _ _ (c .before .before .if1 .left))
+    λ g registers moves h.
+    rw (c .assign .ensures, c .before .get .ensures, toZ-ofZ (c .before .before .before .before .fits .message), ne-eqb _ _ (c .before .before .if1 .left))
 
 pub receive-spec : {M : Type 1} → statement M
 receive-spec =
