@@ -1,8 +1,8 @@
 /* The lane run-time for hosts written in C: the block check and the bench.
  *
  * Both functions are proved to meet the contracts below for every slice, of any length and any bytes. They keep no state, allocate nothing,
- * call nothing of the C library and may be called from several threads at once. A slice is a pointer and a length; the pointer is not
- * null, also where the length is 0, and the bytes of `listing` overlap no other slice. `lane_bench` needs some 200 KB of stack.
+ * call memcpy and memset alone of the C library, and may be called from several threads at once. A slice is a pointer and a length; the
+ * pointer is not null, also where the length is 0, and the bytes of `listing` overlap no other slice. `lane_bench` needs some 200 KB of stack.
  */
 #ifndef LANE_H
 #define LANE_H
