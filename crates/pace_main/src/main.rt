@@ -3,9 +3,6 @@
 use lane::Lane;
 use lane_file::Answer;
 ghost use mathlib.Core.Path.{_≡_};
-ghost use mathlib.Core.Bool.{Bool, true};
-ghost use Prim.Native.Nat.{ℕ, _<_};
-ghost use lib.ListN.{length, getD};
 
 const OUT: i32 = 1;
 
@@ -13,20 +10,6 @@ fn wide(x: u8) -> usize
     ensures { λ r. ⌜ r ≡ x ⌝ }
 {
     x as usize
-}
-
-// Every pick names one of the processes.
-fn all_below(picks: &[u8], processes: usize) -> bool
-    ensures { λ r. ⌜ (r ≡ true → (k : ℕ) → k < length (now (picks .entry)) → getD (now (picks .entry)) k 0 < processes) ⌝ }
-{
-    let mut k = 0;
-    while k < picks.len() {
-        if processes <= wide(picks[k]) {
-            return false;
-        }
-        k += 1;
-    }
-    true
 }
 
 // Processes 0, 1, .. in turn.
@@ -47,19 +30,9 @@ fn round_robin(processes: usize) -> [u8; 4096] {
     picks
 }
 
-// The picks, on a lane that is fit for them.
+// The picks, as a run.
 fn lap(lane: Lane, cells: &mut [i32], picks: &[u8]) -> Lane {
-    if cells.len() != 8192 {
-        return lane;
-    }
-    if !lane_sound::sound(lane) {
-        return lane;
-    }
-    let net = lane.network;
-    if !all_below(picks, net.processes) {
-        return lane;
-    }
-    let ran = lane_picks::pick_all(lane, cells, picks);
+    let ran = schedule::run(lane, cells, picks);
     ran.lane
 }
 
