@@ -58,6 +58,13 @@ pub fn number(r: Refusal) -> u8
     }
 }
 
+// A byte as a number.
+pub fn wide(x: u8) -> usize
+    ensures { λ r. ⌜ r ≡ x ⌝ }
+{
+    x as usize
+}
+
 // The first byte from a on and before e that is not zero. Public for the crates above, which look only inside their slices.
 pub fn zeros(s: &[u8], a: usize, e: usize) -> Verdict
     requires { ⌜ e ≤ length (now s) ⌝ }

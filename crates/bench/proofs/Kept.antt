@@ -9,6 +9,7 @@ use borrow.Author.Tests.{ltb-true, ltb-false, not-false}
 use lib.Dec.{eqb, ltb}
 use lib.IntN.{ℤ, pos}
 use lib.ListN.{length, getD, replicate, length-replicate}
+use Rattle.base.proofs.Conjunction.{neither}
 use Rattle.base.specs.Tests.{firstBad, isGood}
 use Rattle.base.proofs.Lists.{length-values}
 use Rattle.network.specs.declared.Network.{Network}
@@ -23,6 +24,7 @@ use Rattle.relief.specs.Relief.{Told, enlarged, refused, Relief, relieveOf}
 use Rattle.relief.proofs.Enlarged.{relief-cases, relief-kept}
 use Rattle.schedule.specs.Running.{relieves}
 use Rattle.schedule.specs.Run as run
+use Rattle.schedule.specs.Run.{names}
 use Rattle.schedule.proofs.Ready.{Ready, ready-pick, ready-kept, ready-relief}
 use Rattle.schedule.proofs.Stretches.{one-of}
 use Rattle.bench_rules.specs.Printed.{silent}
@@ -31,9 +33,8 @@ use Rattle.bench_rules.specs.Feeding.{Inputs, inputs, feeds}
 use Rattle.bench_rules.specs.Emptying.{outputs}
 use Rattle.bench_rules.specs.Playing.{relievesIn, picksIn, Bench, playsOne, plays, start}
 use Rattle.bench_rules.proofs.Fed.{feeds-kept}
-use Rattle.bench_rules.proofs.EmptyingLaws.{neither, empties-kept}
+use Rattle.bench_rules.proofs.EmptyingLaws.{empties-kept}
 use Rattle.bench.specs.Bench.{fromOutside, inputWrong, picksWrong}
-use Rattle.bench.specs.Parts.{named}
 
 module _ (n : Network) where
   -- the feeds before a pick byte
@@ -41,7 +42,7 @@ module _ (n : Network) where
   fed-ready left w s e = rw e (ready-kept n w _ (feeds-kept (inputs left w)) s)
 
   -- a pick byte alone
-  pub picks-ready : (p : ℕ) (w : World) → named p (n .processes) ≡ true → Ready n w → Ready n (picksIn p w .after)
+  pub picks-ready : (p : ℕ) (w : World) → names p (n .processes) ≡ true → Ready n w → Ready n (picksIn p w .after)
   unfolding relievesIn relieves
   picks-ready p w e s = at (eqb p 255) refl
     where
@@ -50,14 +51,14 @@ module _ (n : Network) where
       at false q = ready-pick n p w (ltb-true p (n .processes) (one-of (ltb p (n .processes)) (eqb p 255) e q)) s
 
   -- with what comes before and after it
-  pub plays-one-ready : (p : ℕ) (b : Bench) → named p (n .processes) ≡ true → Ready n (b .world) → Ready n (playsOne p b .after .world)
+  pub plays-one-ready : (p : ℕ) (b : Bench) → names p (n .processes) ≡ true → Ready n (b .world) → Ready n (playsOne p b .after .world)
   unfolding playsOne
   plays-one-ready p b e s =
       let w : World = feeds (inputs (b .left) (b .world)) .world in
       ready-kept n _ _ (empties-kept (outputs (picksIn p w .after) (b .given))) (picks-ready p w e (fed-ready (b .left) (b .world) s refl))
 
   -- all of them
-  pub plays-ready : (ps : List ℕ) (b : Bench) → ((k : ℕ) → k < length ps → named (getD ps k 0) (n .processes) ≡ true) → Ready n (b .world) → Ready n (plays ps b .after .world)
+  pub plays-ready : (ps : List ℕ) (b : Bench) → ((k : ℕ) → k < length ps → names (getD ps k 0) (n .processes) ≡ true) → Ready n (b .world) → Ready n (plays ps b .after .world)
   plays-ready [] b h s = s
   plays-ready (p ∷ ps) b h s = plays-ready ps (playsOne p b .after) (λ k l. h (suc k) (omega arith)) (plays-one-ready p b (h 0 (omega arith)) s)
 
@@ -69,7 +70,7 @@ module _ (n : Network) where
 
 -- ---- what the tests before the first byte say
 -- each byte names a process or is 255
-pub all-named : (n : Network) (picks : List ℕ) → picksWrong n picks ≡ false → (k : ℕ) → k < length picks → named (getD picks k 0) (n .processes) ≡ true
+pub all-named : (n : Network) (picks : List ℕ) → picksWrong n picks ≡ false → (k : ℕ) → k < length picks → names (getD picks k 0) (n .processes) ≡ true
 all-named n picks e k h = at-each (run.named picks (n .processes)) 0 (length picks) (not-false _ e) k (omega arith) (omega arith)
 
 -- there are at most 3,000 of them

@@ -16,6 +16,7 @@ use Rattle.lane.specs.declared.Lane.{Lane}
 use Rattle.lane.specs.State.{World, world, standingOf, freshOf}
 use Rattle.lane.specs.Pick.{pickIn, pickNext, pickAll, unpicked}
 use Rattle.relief.specs.Relief.{Told, relieveOf}
+use Rattle.schedule.specs.Run.{names}
 use Rattle.schedule.specs.Running.{relieves}
 use Rattle.schedule.proofs.Ready.{Ready}
 use Rattle.listing.specs.declared.Status.{Status}
@@ -28,7 +29,7 @@ use Rattle.bench_rules.specs.Emptying.{Outputs, outputs, empties}
 use Rattle.bench_rules.specs.Playing.{growLines, relievesIn, picksIn, Bench, bench, picksOn, playsOne, plays, statusOf, procLines, start, linesOf}
 use Rattle.bench_rules.proofs.Underway.{Underway, begun, room-for, more, finished}
 use Rattle.bench.specs.declared.playing.Turn.{Turn}
-use Rattle.bench.specs.Parts.{named, held}
+use Rattle.bench.specs.Parts.{held}
 use Rattle.bench.proofs.Kept.{plays-one-ready}
 
 -- ---- a pick byte alone: a relief, or a pick
@@ -100,7 +101,7 @@ start-is n input e q = rw (e, q)
 
 -- what the loop over the pick bytes keeps: of the bytes from b₀ on the first i are played, with their lines in the buffer, and have led to t
 pub record Partway (n : Network) (input picks : List ℕ) (b₀ : Bench) (entry : List ℕ) (i : ℕ) (t : Turn) (cells : List ℤ) (listing : List ℕ) : Type 0 where
-  pub named : (k : ℕ) → k < length picks → named (getD picks k 0) (n .processes) ≡ true
+  pub named : (k : ℕ) → k < length picks → names (getD picks k 0) (n .processes) ≡ true
   pub ready : Ready n (world (t .lane) cells)
   pub underway : Underway (plays picks b₀) 0 entry (plays (drop i picks)) (held t input cells) (t .at) listing
 

@@ -1,18 +1,12 @@
 -- What the parts of a bench hand on to one another. `bench` says nothing of these.
 -- Assumes nothing.
-use mathlib.Core.Bool.{Bool, _||_}
 use mathlib.Core.List.{List}
 use Prim.Native.Nat.{ℕ}
-use lib.Dec.{eqb, ltb}
 use lib.IntN.{ℤ}
 use Rattle.lane.specs.State.{world}
 use Rattle.bench_rules.specs.Input.{leftAt}
 use Rattle.bench_rules.specs.Playing.{Bench, bench}
 use Rattle.bench.specs.declared.playing.Turn.{Turn}
-
--- a byte names one of so many processes, or is 255
-abbrev pub named : ℕ → ℕ → Bool
-named b processes = ltb b processes || eqb b 255
 
 -- what the code holds between two pick bytes, in the terms of the rule
 abbrev pub held : Turn → List ℕ → List ℤ → Bench

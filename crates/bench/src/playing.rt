@@ -3,8 +3,8 @@ use lane::Lane;
 use listing::Status;
 use network::Network;
 use process::Condition;
-use process::Outcome;
 use relief::ReliefAnswer;
+use relief::Waiting;
 ghost use mathlib.Core.Path.{_≡_};
 ghost use mathlib.Core.Bool.{true, false};
 ghost use Prim.Native.Nat.{ℕ, _+_, _≤_, _<_};
@@ -13,13 +13,14 @@ ghost use lib.IntN.{pos};
 ghost use Rattle.network.specs.Rules.{passes};
 ghost use Rattle.lane.specs.State.{world, channelOf};
 ghost use Rattle.lane.specs.Sound.{soundOf};
-ghost use Rattle.relief.specs.Waits.{waitIn};
+ghost use Rattle.relief.specs.Parts.{waitAs};
 ghost use Rattle.relief.specs.Relief.{told, enlarged};
+ghost use Rattle.schedule.specs.Run.{names};
 ghost use Rattle.listing.specs.Text.{text};
 ghost use Rattle.listing.specs.Written.{written};
-ghost use Rattle.bench_rules.specs.Playing.{growLines, picksIn, playsOne, plays, waitStatus, statusOf, procLines, start, linesOf};
+ghost use Rattle.bench_rules.specs.Playing.{growLines, picksIn, playsOne, plays, statusIn, procLines, start, linesOf};
 ghost use Rattle.bench.specs.Bench.{inputWrong, picksWrong};
-ghost use Rattle.bench.specs.Parts.{named, held};
+ghost use Rattle.bench.specs.Parts.{held};
 
 // A lane, and the place after the lines written.
 struct Placed {
@@ -51,7 +52,7 @@ fn print_growth(answer: ReliefAnswer, lane: Lane, listing: &mut [u8], at: usize)
 
 // A pick byte alone: a pick of a process, or a relief.
 fn pick_byte(lane: Lane, cells: &mut [i32], pick: u8, listing: &mut [u8], at: usize) -> Placed
-    requires { ⌜ (soundOf lane ≡ true) × (length (now cells) ≡ 8192) × (named pick (lane .network .processes) ≡ true) × (at + length (text (picksIn pick (world lane (now cells)) .lines)) ≤ length (now listing)) ⌝ }
+    requires { ⌜ (soundOf lane ≡ true) × (length (now cells) ≡ 8192) × (names pick (lane .network .processes) ≡ true) × (at + length (text (picksIn pick (world lane (now cells)) .lines)) ≤ length (now listing)) ⌝ }
     ensures { λ r. ⌜ (world (r .lane) (now (cells .exit)) ≡ picksIn pick (world lane (now (cells .entry))) .after) × (r .at ≡ at + length (text (picksIn pick (world lane (now (cells .entry))) .lines))) × (now (listing .exit) ≡ written at (text (picksIn pick (world lane (now (cells .entry))) .lines)) (now (listing .entry))) ⌝ }
 {
     if pick == 255 {
@@ -69,7 +70,7 @@ fn pick_byte(lane: Lane, cells: &mut [i32], pick: u8, listing: &mut [u8], at: us
 
 // A pick byte with what comes before and after it.
 fn play_one(before: Turn, cells: &mut [i32], input: &[u8], pick: u8, listing: &mut [u8]) -> Turn
-    requires { ⌜ (soundOf (before .lane) ≡ true) × (length (now cells) ≡ 8192) × (named pick (before .lane .network .processes) ≡ true) × (before .at + length (text (playsOne pick (held before (now input) (now cells)) .lines)) ≤ length (now listing)) ⌝ }
+    requires { ⌜ (soundOf (before .lane) ≡ true) × (length (now cells) ≡ 8192) × (names pick (before .lane .network .processes) ≡ true) × (before .at + length (text (playsOne pick (held before (now input) (now cells)) .lines)) ≤ length (now listing)) ⌝ }
     ensures { λ r. ⌜ (held r (now (input .entry)) (now (cells .exit)) ≡ playsOne pick (held before (now (input .entry)) (now (cells .entry))) .after) × (r .at ≡ before .at + length (text (playsOne pick (held before (now (input .entry)) (now (cells .entry))) .lines))) × (now (listing .exit) ≡ written (before .at) (text (playsOne pick (held before (now (input .entry)) (now (cells .entry))) .lines)) (now (listing .entry))) ⌝ }
 {
     let lane = before.lane;
@@ -112,35 +113,18 @@ fn play(net: Network, cells: &mut [i32], input: &[u8], picks: &[u8], listing: &m
     Placed { lane, at: state.at }
 }
 
-// How a live process stands that would do this.
-fn wait_status(outcome: Outcome) -> Status
-    ensures { λ r. ⌜ ((c : ℕ) → r ≡ waitStatus (waitIn outcome c)) ⌝ }
+// How a process stands in this condition, which would wait so if picked.
+fn status(condition: Condition, waiting: Waiting) -> Status
+    ensures { λ r. ⌜ ((c : ℕ) → r ≡ statusIn condition (waitAs waiting c)) ⌝ }
 {
-    match outcome {
-        Outcome::Moved => Status::Run,
-        Outcome::Sent(_) => Status::Run,
-        Outcome::Halted => Status::Run,
-        Outcome::WaitEmpty => Status::Empty,
-        Outcome::WaitFull => Status::Full,
-        Outcome::Ended => Status::Run,
-    }
-}
-
-// How process p stands.
-fn status(lane: Lane, p: usize) -> Status
-    requires { ⌜ (soundOf lane ≡ true) × (p < lane .network .processes) ⌝ }
-    ensures { λ r. ⌜ r ≡ statusOf lane p ⌝ }
-{
-    let standing = lane.processes[p];
-    let condition = standing.condition;
     match condition {
         Condition::Stopped => Status::Stop,
         Condition::Faulted => Status::Fault,
-        Condition::Live => {
-            let seen = relief::foresee(lane, p);
-            let outcome = seen.outcome;
-            wait_status(outcome)
-        }
+        Condition::Live => match waiting {
+            Waiting::Free => Status::Run,
+            Waiting::Empty => Status::Empty,
+            Waiting::Full => Status::Full,
+        },
     }
 }
 
@@ -150,11 +134,16 @@ fn print_processes(lane: Lane, listing: &mut [u8], at: usize) -> usize
     ensures { λ r. ⌜ (r ≡ at + length (text (procLines lane 0 (lane .network .processes)))) × (now (listing .exit) ≡ written at (text (procLines lane 0 (lane .network .processes))) (now (listing .entry))) ⌝ }
 {
     let net = lane.network;
+    let waits = relief::waits_of(lane);
     let mut place = at;
     let mut p: usize = 0;
     while p < net.processes {
         let standing = lane.processes[p];
-        place = listing::write_proc(listing, place, p, status(lane, p), standing.moves);
+        let condition = standing.condition;
+        let way = waits.ways[p];
+        let waiting = way.waiting;
+        let status = status(condition, waiting);
+        place = listing::write_proc(listing, place, p, status, standing.moves);
         p += 1;
     }
     place

@@ -10,7 +10,7 @@ use borrow.Author.Tests.{ltb-true, eqb-true, eq-eqb, ne-eqb}
 use lib.Dec.{eqb, ltb}
 use lib.IntN.{ℤ}
 use lib.ListN.{length}
-use Rattle.network.proofs.Conjunction.{both-true}
+use Rattle.base.proofs.Conjunction.{both-true}
 use Rattle.process.specs.Execute.{full}
 use Rattle.lane.specs.State.{World, channelOf}
 use Rattle.lane.specs.Calls.{Told, accepted, refused, Called, called, isClosed, receiverEnded, feedOf, closeOf}

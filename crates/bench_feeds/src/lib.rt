@@ -114,7 +114,7 @@ pub fn feed_all(lane: Lane, cells: &mut [i32], input: &[u8], next: [usize; 32]) 
     while c < net.channels {
         if net.sender[c] == 255 {
             let h = l.channels[c];
-            let e = lane_picks::end(net.receiver[c]);
+            let e = base::wide(net.receiver[c]);
             let gone = lane_sound::ended_if(e, l.processes[e % 16]);
             if !idle(h, gone, input, c, at[c]) {
                 let filled = fill(l, cells, input, c, at[c]);

@@ -9,6 +9,7 @@ use native.Mathlib.Omega.{arith}
 use borrow.Author.Tests.{ltb-false}
 use lib.Dec.{eqb, ltb}
 use lib.ListN.{set, getD}
+use Rattle.base.proofs.Conjunction.{neither}
 use Rattle.network.specs.Rules.{receiverOf, outside}
 use Rattle.lane.specs.State.{channelOf}
 use Rattle.lane.specs.Calls.{Called}
@@ -49,10 +50,6 @@ abbrev pub givesAt : ℕ → Outputs → Bool
 givesAt c o =
     eqb (receiverOf (o .world .lane .network) c) outside && not (getD (o .given) c false)
     && (ltb 0 (channelOf (o .world .lane) c .held) || channelOf (o .world .lane) c .closed)
-
-pub neither : (a b : Bool) → (a || b) ≡ false → (a ≡ false) × (b ≡ false)
-neither true b e = absurd (true≢false e)
-neither false b e = (refl, e)
 
 module _ (c : ℕ) (o : Outputs) where
   abbrev all : Printed Outputs

@@ -14,7 +14,7 @@ use Rattle.base.specs.Tests.{between}
 use Rattle.base.specs.Lists.{values}
 use Rattle.network.specs.declared.Network.{Network}
 use Rattle.network.specs.Rules.{senderOf, receiverOf, capacityOf, outside, endRight, endsRight, receives, sends, recordRight, records, passes}
-use Rattle.network.proofs.Conjunction.{both-true}
+use Rattle.base.proofs.Conjunction.{both-true}
 use Rattle.network.proofs.Passed.{passed}
 use Rattle.process.specs.Process.{Process}
 use Rattle.process.specs.declared.Channel.{Channel}

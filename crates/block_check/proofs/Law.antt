@@ -99,8 +99,3 @@ turn c bs i h = rw (add-one, drop-cons bs i 0)
 pub done : (c : ℕ) (bs : List ℕ) (i : ℕ) → length bs ≤ i → from c (drop i bs) ≡ from 65535 bs → c ≡ crc bs
 unfolding crc
 done c bs i h e = sym (ap (from c) (drop-of-length-le bs h)) ∙ e
-
--- the check value that catalogues give, of the bytes "123456789"
-known : crc (49 ∷ 50 ∷ 51 ∷ 52 ∷ 53 ∷ 54 ∷ 55 ∷ 56 ∷ 57 ∷ []) ≡ 0x29B1
-unfolding crc
-known = refl

@@ -13,12 +13,13 @@ use Rattle.base.specs.Tests.{inTurn}
 use Rattle.network.specs.declared.Network.{Network}
 use Rattle.network.specs.Code.{fieldsRight, standsRight}
 use Rattle.network.specs.Rules.{total, slots, endsRight, records, instructionRight, codeOf, instructions, unusedSlots, unusedRecords}
-use Rattle.network.proofs.Conjunction.{both-true}
+use Rattle.base.proofs.Conjunction.{both-true}
 use Rattle.network.proofs.Unused.{passesBut, passes-by}
 use Rattle.arithmetic.specs.Wrap.{residue, centred, wrap}
 use Rattle.arithmetic.specs.Quotient.{quotientOf, remainderOf}
 use Rattle.process.specs.Want.{wantLive, want}
 use Rattle.process.specs.Execute.{execute, stepOf}
+use Rattle.process.specs.Window.{eight}
 use Rattle.lane.specs.declared.Lane.{Lane}
 use Rattle.lane.specs.State.{World, world, standsAt}
 use Rattle.lane.specs.Sound.{channelSound, positions, channelsSound, unusedStandings, unusedRegisters, unusedChannels, soundOf}
@@ -94,7 +95,7 @@ module _ (cells : List ℤ) where
   all-fit = refl
 
   computed : Computed (table cells)
-  unfolding stepOf execute want wantLive wrap centred residue quotientOf remainderOf standsAt stepAt putBack pickIn waitOf pointing fullWait waitsAt iter closesFrom chain firstFrom search crc
+  unfolding stepOf execute want wantLive wrap centred residue quotientOf remainderOf standsAt stepAt putBack pickIn eight waitOf pointing fullWait waitsAt iter closesFrom chain firstFrom search crc
   computed =
       -- a, b, c
       refl

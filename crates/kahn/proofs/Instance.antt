@@ -17,14 +17,14 @@ use Rattle.base.specs.declared.Verdict.the-variants.{Good}
 use Rattle.network.specs.declared.Network.{Network}
 use Rattle.network.specs.Code.{fieldsRight, standsRight, mayBeLast}
 use Rattle.network.specs.Rules.{startOf, countOf, endOf, receives, sends, instructionOf, instructionRight, instructions, passes}
-use Rattle.network.proofs.Conjunction.{both-true}
+use Rattle.base.proofs.Conjunction.{both-true}
 use Rattle.network.proofs.Passed.{passed}
 use Rattle.process.specs.Process.{Process}
 use Rattle.process.specs.Intent.{Intent, idle}
 use Rattle.process.specs.Want.{want}
 use Rattle.lane.specs.declared.Standing.{Standing}
 use Rattle.lane.specs.State.{noStanding, joined, split, noInstruction, standsAt}
-use Rattle.lane.specs.Window.{eight, putEight}
+use Rattle.process.specs.Window.{eight, putEight}
 use Rattle.lane.proofs.Instructions.{right-at}
 use Rattle.lane.proofs.Windows.{eight-put, eight-put-other, put-eight, length-put}
 use Rattle.kahn.specs.Plain.{newProcess, intentOf}

@@ -12,7 +12,7 @@ use lib.Dec.{eqb, ltb, leb}
 use lib.ListN.{length, getD}
 use Rattle.network.specs.declared.Network.{Network}
 use Rattle.network.specs.Rules.{passes}
-use Rattle.network.proofs.Conjunction.{both-true}
+use Rattle.base.proofs.Conjunction.{both-true}
 use Rattle.lane_file.specs.File.{fileOf}
 use Rattle.lane_file.specs.Read.{Bytes}
 use Rattle.lane_file.proofs.RoundTrip.{Shaped, read-written}

@@ -15,14 +15,14 @@ use lib.ListN.{length, getD, take, drop, replicate, length-replicate, take-appen
 use Rattle.base.proofs.Lists.{length-values, table-at}
 use Rattle.network.specs.declared.Network.{Network}
 use Rattle.network.specs.Rules.{receiverOf, passes}
-use Rattle.network.proofs.Conjunction.{both-true}
+use Rattle.base.proofs.Conjunction.{both-true}
 use Rattle.process.specs.Process.{Process}
 use Rattle.process.specs.declared.Channel.{Channel}
 use Rattle.process.specs.declared.Outcome.{Outcome}
 use Rattle.process.specs.declared.Outcome.the-variants.{Moved, Sent, Halted, WaitEmpty, WaitFull, Ended}
 use Rattle.process.specs.Channels.{noChannel}
 use Rattle.lane.specs.State.{World, world, noStanding, processOf, channelOf, freshChannel, freshOf}
-use Rattle.lane.specs.Window.{eight}
+use Rattle.process.specs.Window.{eight}
 use Rattle.lane.specs.Pick.{stepFor}
 use Rattle.lane.specs.Calls.{Called, answerTo, pickOf}
 use Rattle.lane.proofs.SoundLaws.{sound-says, fresh-sound}
@@ -54,6 +54,7 @@ all-same (suc k) zero a = refl
 all-same (suc k) (suc i) a = all-same k i a
 
 eight-null : (xs : List ℤ) (b : ℕ) → ((i : ℕ) → getD xs i (pos 0) ≡ pos 0) → eight xs b ≡ replicate 8 (pos 0)
+unfolding eight
 eight-null xs b h = rw (h b, h (b + 1), h (b + 2), h (b + 3), h (b + 4), h (b + 5), h (b + 6), h (b + 7))
 
 module _ (n : Network) (pass : passes n ≡ true) where

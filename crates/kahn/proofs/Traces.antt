@@ -10,7 +10,7 @@ use lib.Dec.{eqb}
 use lib.IntN.{ℤ}
 use lib.ListN.{length}
 use Rattle.network.specs.declared.Network.{Network}
-use Rattle.network.proofs.Conjunction.{both-true}
+use Rattle.base.proofs.Conjunction.{both-true}
 use Rattle.process.specs.Want.{registerOf}
 use Rattle.lane.specs.State.{World, world, processOf}
 use Rattle.lane.specs.Sound.{soundOf}

@@ -26,7 +26,7 @@ use Rattle.process.specs.Execute as small
 use Rattle.process.specs.Intent.{Intent, idle, inner, receive, send, close, halt}
 use Rattle.process.specs.Want.{want}
 use Rattle.lane.specs.State.{World, world, split, endedAt}
-use Rattle.lane.specs.Window.{putEight}
+use Rattle.process.specs.Window.{putEight}
 use Rattle.lane.specs.Calls.{receiverEnded, stored}
 use Rattle.lane.specs.Pick.{channelIn, settle, putBack, stepAt, instructionFor, stepFor, pickIn}
 use Rattle.lane.specs.Pick as lane

@@ -15,7 +15,7 @@ use Rattle.base.specs.Lists.{values, joined}
 use Rattle.network.specs.declared.Network.{Network}
 use Rattle.network.specs.Code.{fieldsRight, standsRight}
 use Rattle.network.specs.Rules.{senderOf, outside, slots, endsRight, records, instructionRight, codeOf, instructions, unusedSlots, unusedRecords, passes}
-use Rattle.network.proofs.Conjunction.{both-true}
+use Rattle.base.proofs.Conjunction.{both-true}
 use Rattle.network.proofs.Unused.{passes-by}
 use Rattle.arithmetic.specs.Wrap.{residue, centred, wrap}
 use Rattle.process.specs.Process.{Process}
@@ -23,6 +23,7 @@ use Rattle.process.specs.declared.Condition.{Condition}
 use Rattle.process.specs.declared.Condition.the-variants.{Live, Stopped, Faulted}
 use Rattle.process.specs.Want.{wantLive, want}
 use Rattle.process.specs.Execute.{execute, stepOf}
+use Rattle.process.specs.Window.{eight}
 use Rattle.lane.specs.State.{World, processOf, channelOf, standsAt, freshOf}
 use Rattle.lane.specs.Pick.{putBack, stepAt, pickIn}
 use Rattle.lane.specs.Calls.{moved, waitingEmpty, waitingFull, ended, accepted, value, theEnd, refused}
@@ -51,7 +52,7 @@ unfolding fileOf firstBlock codeBlock joined crc
 files = 0
 
 calls : ℕ
-unfolding bare freshOf values standsAt stepAt putBack pickIn stepOf execute want wantLive wrap centred residue waitOf pointing fullWait waitsAt iter closesFrom chain firstFrom search
+unfolding bare freshOf values standsAt stepAt putBack pickIn eight stepOf execute want wantLive wrap centred residue waitOf pointing fullWait waitsAt iter closesFrom chain firstFrom search
 calls = 0
 
 plain : ℕ

@@ -13,7 +13,7 @@ use Rattle.network.specs.declared.Network.{Network}
 use Rattle.network.specs.declared.Instruction.{Instruction}
 use Rattle.network.specs.Code.{fieldsRight, standsRight, mayBeLast}
 use Rattle.network.specs.Rules.{startOf, countOf, endOf, receives, sends, instructionOf, instructionRight, codeOf, instructions}
-use Rattle.network.proofs.Conjunction.{both-true}
+use Rattle.base.proofs.Conjunction.{both-true}
 use Rattle.network.proofs.Passed.{passed}
 use Rattle.lane.specs.declared.Lane.{Lane}
 use Rattle.lane.specs.State.{standingOf, standsAt}

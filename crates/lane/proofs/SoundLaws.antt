@@ -16,7 +16,7 @@ use Rattle.base.proofs.Tests.{each, all, need-true, true-need}
 use Rattle.base.proofs.Lists.{table-at}
 use Rattle.network.specs.declared.Network.{Network}
 use Rattle.network.specs.Rules.{countOf, senderOf, receiverOf, capacityOf, outside, endRight, endsRight, recordRight, records, recordZero, unusedRecords, passes}
-use Rattle.network.proofs.Conjunction.{both-true, good-is, between-true, true-between}
+use Rattle.base.proofs.Conjunction.{both-true, good-is, between-true, true-between}
 use Rattle.network.proofs.Slot.{right-at}
 use Rattle.network.proofs.Passed.{passed}
 use Rattle.process.specs.declared.Condition.{Condition}

@@ -8,13 +8,14 @@ use mathlib.Core.List.{List, _∷_, _++_, append-assoc}
 use lib.IntN.{ℤ, pos}
 use lib.ListN.{length, set, take, drop, length-append, length-drop, length-set, take-append-drop}
 use lib.Seq.{drop-cons, drop-drop, take-all, sets, sets-eq, getD-set-other, length-take-le, drop-at, take-at, take-set-le, take-set-lt, drop-set-lt, drop-set-add}
-use Rattle.lane.specs.Window.{at, eight, putEight}
+use Rattle.process.specs.Window.{at, eight, putEight}
 
 next-of : (n : ℕ) (xs : List ℤ) (b : ℕ) → b < length xs → take (suc n) (drop b xs) ≡ at xs b ∷ take n (drop (suc b) xs)
 next-of n xs b h = rw (drop-cons xs b (pos 0) h)
 
 -- a window is a part of the file
 pub eight-is : (xs : List ℤ) (b : ℕ) → b + 8 ≤ length xs → eight xs b ≡ take 8 (drop b xs)
+unfolding eight
 eight-is xs b h =
     simp towards-suc
     (rw (
@@ -31,7 +32,12 @@ eight-is xs b h =
 all-eight : (r : List ℤ) → length r ≡ 8 → eight r 0 ≡ r
 all-eight r e = eight-is r 0 (omega arith) ∙ take-all 8 r (omega arith)
 
+eight-long : (xs : List ℤ) (b : ℕ) → length (eight xs b) ≡ 8
+unfolding eight
+eight-long xs b = refl
+
 sets-eight : (xs : List ℤ) (b : ℕ) (r : List ℤ) → putEight xs b r ≡ sets xs b (eight r 0)
+unfolding eight
 sets-eight xs b r = simp towards-suc
 
 -- what a store into a window makes of the file
@@ -61,6 +67,7 @@ put-other xs p r j h =
 
 -- the registers of another process are as they were
 pub eight-put-other : (xs : List ℤ) (p p′ : ℕ) (r : List ℤ) → (p ≡ p′ → ⊥) → eight (putEight xs (8 * p) r) (8 * p′) ≡ eight xs (8 * p′)
+unfolding eight
 eight-put-other xs p p′ r h =
     cc (
       put-other xs p r (8 * p′) (λ e. h (omega arith)),
@@ -86,7 +93,7 @@ parts xs b = rw (← drop-drop 8 b xs, append-assoc, take-append-drop 8 (drop b 
 
 -- a window's own registers put back change nothing
 pub put-eight : (xs : List ℤ) (b : ℕ) → b + 8 ≤ length xs → putEight xs b (eight xs b) ≡ xs
-put-eight xs b h = put-is xs b (eight xs b) refl h ∙ rw (eight-is xs b h) (parts xs b)
+put-eight xs b h = put-is xs b (eight xs b) (eight-long xs b) h ∙ rw (eight-is xs b h) (parts xs b)
 
 put-changed : (xs : List ℤ) (b a : ℕ) (v : ℤ) (r : List ℤ) → r ≡ take 8 (drop b xs) → length r ≡ 8 → a < 8 → b + 8 ≤ length xs → putEight xs b (set r a v) ≡ set xs (b + a) v
 put-changed xs b a v r e n l h =
@@ -102,4 +109,4 @@ put-changed xs b a v r e n l h =
 
 -- a window put back with one register changed
 pub put-one : (xs : List ℤ) (b a : ℕ) (v : ℤ) → a < 8 → b + 8 ≤ length xs → putEight xs b (set (eight xs b) a v) ≡ set xs (b + a) v
-put-one xs b a v l h = put-changed xs b a v (eight xs b) (eight-is xs b h) refl l h
+put-one xs b a v l h = put-changed xs b a v (eight xs b) (eight-is xs b h) (eight-long xs b) l h

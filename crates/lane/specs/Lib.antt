@@ -1,4 +1,3 @@
-pub mod Window
 pub mod State
 pub mod Sound
 pub mod Pick

@@ -2,7 +2,8 @@
 -- Assumes nothing.
 use mathlib.Core.Bool.{Bool, true, false, cond}
 use mathlib.Core.List.{List, [], _∷_}
-use Prim.Native.Nat.{ℕ, suc, _+_, _%_}
+use Prim.Native.Nat.{ℕ, zero, suc, _+_, _%_}
+use lib.Dec.{eqb}
 use lib.ListN.{set}
 use lib.IntN.{ℤ}
 use Rattle.network.specs.declared.Network.{Network}
@@ -92,3 +93,23 @@ unpicked w = record { world = w; moved = 0; last = Ended; channel = 0 }
 -- what the code answers after some picks, with the cells as they are then
 abbrev pub progressOf : Ran → List ℤ → Progress
 progressOf r cells = record { world = world (r .lane) cells; moved = r .moved; last = r .last; channel = r .channel }
+
+-- ---- rounds of picks: the picks in turn, and again after a round with a move, as often as may follow; how many more might have followed
+pub record Rounds : Type 0 where
+  pub progress : Progress
+  pub left : ℕ
+
+abbrev pub roundsEnd : Progress → ℕ → Rounds
+roundsEnd g left = record { progress = g; left = left }
+
+-- the moves of a round are counted from 0
+abbrev pub recounted : Progress → Progress
+recounted g = record { world = g .world; moved = 0; last = g .last; channel = g .channel }
+
+abbrev pub pickRounds : ℕ → List ℕ → Progress → Rounds
+pickRounds zero ps g = roundsEnd (pickAll ps g) 0
+pickRounds (suc again) ps g =
+    cond (eqb (pickAll ps g .moved) 0) (roundsEnd (pickAll ps g) (suc again)) (pickRounds again ps (recounted (pickAll ps g)))
+
+abbrev pub roundsOf : Ran → List ℤ → Rounds
+roundsOf r cells = roundsEnd (progressOf r cells) (r .left)

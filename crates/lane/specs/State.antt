@@ -18,7 +18,7 @@ use Rattle.process.specs.Channels.{noChannel}
 use Rattle.process.specs.Want.{counted}
 use Rattle.lane.specs.declared.Standing.{Standing}
 use Rattle.lane.specs.declared.Lane.{Lane}
-use Rattle.lane.specs.Window.{eight, putEight}
+use Rattle.process.specs.Window.{eight, putEight}
 
 -- a lane and the cells lent to it
 pub record World : Type 0 where

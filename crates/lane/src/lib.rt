@@ -56,10 +56,12 @@ pub struct Taken {
     pub answer: TakeAnswer,
 }
 
-// After some picks: the lane, how many of them moved, and what the last one did, at which channel.
+// After rounds of picks: the lane, how many picks of the last round moved, what the last pick did, at which
+// channel, and how many more rounds might have followed.
 pub struct Ran {
     pub lane: Lane,
     pub moved: u64,
     pub last: Outcome,
     pub channel: usize,
+    pub left: u64,
 }

@@ -15,7 +15,7 @@ use Rattle.base.proofs.Tests.{both-good, true-need, all}
 use Rattle.block_check.specs.Crc.{crc}
 use Rattle.network.specs.declared.Network.{Network}
 use Rattle.network.specs.Rules.{startOf, countOf, senderOf, receiverOf, capacityOf, processesRight, channelsRight, slotZero, recordZero, slots, total, unusedSlots, unusedRecords}
-use Rattle.network.proofs.Conjunction.{both-true, true-both, true-between}
+use Rattle.base.proofs.Conjunction.{both-true, true-both, true-between}
 use Rattle.network.proofs.Passed.{Passed}
 use Rattle.lane_file.specs.File.{slotOf, recordOf}
 use Rattle.lane_file.specs.Read.{blocks, lengthRight, checkRight, checks, header, slotsIn, unusedFrom, codeRest, restIn}

@@ -15,7 +15,7 @@ use Rattle.base.specs.Tests.{need, isZero}
 use Rattle.base.proofs.Tests.{both, need-true}
 use Rattle.block_check.specs.Crc.{crc}
 use Rattle.network.specs.Rules.{startOf, countOf, senderOf, receiverOf, capacityOf, slotZero, recordZero, slots, total, unusedSlots, unusedRecords, unusedCode}
-use Rattle.network.proofs.Conjunction.{both-true, true-both, between-true}
+use Rattle.base.proofs.Conjunction.{both-true, true-both, between-true}
 use Rattle.network.proofs.Passed.{Passed, total-positive}
 use Rattle.lane_file.specs.File.{headerOf, slotOf, recordOf}
 use Rattle.lane_file.specs.Read.{Bytes, blocks, codePlace, networkOf, checkRight, checks}

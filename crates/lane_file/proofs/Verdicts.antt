@@ -14,7 +14,7 @@ use Rattle.base.specs.Tests.{need, inTurn, firstBad, isZero}
 use Rattle.base.proofs.Tests.{both, each, all, need-true, true-need}
 use Rattle.network.specs.declared.Network.{Network}
 use Rattle.network.specs.Rules.{processesRight, channelsRight, records, total, instructions}
-use Rattle.network.proofs.Conjunction.{between-true}
+use Rattle.base.proofs.Conjunction.{between-true}
 use Rattle.lane_file.specs.Read.{Told, accepted, refused, blocks, lengthRight, checks, header, slotsIn, unusedFrom, codeRest, restIn, zerosIn, unless, answerIn}
 
 -- ---- tests place by place

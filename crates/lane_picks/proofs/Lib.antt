@@ -1,2 +1,3 @@
 pub mod Drop
+pub mod Rounds
 pub mod Turn

@@ -1,9 +1,10 @@
--- One pick as the code makes it: the results of its calls, put together, are the pick; and what the loop over the picks keeps.
+-- One pick as the code makes it: the results of its calls, put together, are the pick; and what the loop over rounds of picks keeps.
 -- Assumes nothing.
-use mathlib.Core.Path.{_≡_, refl, sym, _∙_}
+use mathlib.Core.Path.{_≡_, refl, sym, ap, _∙_}
 use mathlib.Core.Bool.{Bool, true, false, cond, _&&_}
+use mathlib.Core.Logic.{_⊎_, inl}
 use mathlib.Core.List.{List}
-use Prim.Native.Nat.{ℕ, _+_, _*_, _%_, _≤_, _<_}
+use Prim.Native.Nat.{ℕ, _+_, _*_, _-_, _%_, _≤_, _<_}
 use native.Mathlib.Decide.{decLt}
 use native.Mathlib.Numerals.{add-one}
 use native.Mathlib.Omega.{arith}
@@ -27,16 +28,18 @@ use Rattle.process.specs.declared.Outcome.the-variants.{Moved, Sent, Halted, Wa
 use Rattle.process.specs.Channels.{slot}
 use Rattle.process.specs.Want.{counted}
 use Rattle.process.specs.Execute.{stepOf}
-use Rattle.process.specs.Changes.{window, inStance, movesAfter, changed, Steppable}
+use Rattle.process.specs.Changes.{inStance, movesAfter, changed, Steppable}
 use Rattle.process.proofs.Fields.{own-low}
 use Rattle.lane.specs.declared.Standing.{Standing}
 use Rattle.lane.specs.declared.Lane.{Lane}
-use Rattle.lane.specs.Window.{putEight}
+use Rattle.process.specs.Window.{eight, putEight}
 use Rattle.lane.specs.State.{World, world, cellAt, noStanding, standingOf, split, processOf, isEnded, channelOf, putChannels, standsAt}
-use Rattle.lane.specs.Pick.{channelIn, dropFrom, settle, putBack, stepAt, instructionFor, stepFor, pickIn, hasMoved, Progress, pickNext, pickAll}
-use Rattle.lane_picks.specs.Turn.{wordAfter, isHalted}
+use Rattle.lane.specs.Pick.{channelIn, dropFrom, settle, putBack, stepAt, instructionFor, stepFor, pickIn, hasMoved, Progress, pickNext, pickAll, roundsEnd, recounted, pickRounds}
+use Rattle.lane_picks.specs.declared.Stage.{Stage}
+use Rattle.lane_picks.specs.Turn.{wordAfter, isHalted, onwardOf}
+use Rattle.lane_picks.proofs.Rounds.{after, none-after, one-after, onward-either}
 use Rattle.lane.proofs.Shape.{Shaped}
-use Rattle.lane.proofs.Windows.{eight-is, put-one}
+use Rattle.lane.proofs.Windows.{put-one}
 use Rattle.lane.proofs.SoundLaws.{Sound, ended-at}
 use Rattle.lane.proofs.Instructions.{stands-right}
 use Rattle.lane.proofs.PickLaws.{picked-sound, pick-network, pick-cells, pick-shaped}
@@ -71,9 +74,8 @@ process-is :
     → p < 16
     → base ≡ 8 * p
     → s ≡ stanceIn l p own
-    → inStance (window (l .registers) base) s (standingOf l p .moves) ≡ processOf l p
-unfolding window
-process-is l p own long low e₁ e₂ = rw (e₂, e₁, eight-is (l .registers) (8 * p) (omega arith))
+    → inStance (eight (l .registers) base) s (standingOf l p .moves) ≡ processOf l p
+process-is l p own long low e₁ e₂ = rw (e₂, e₁)
 
 -- the change that is answered is the step of process p
 pub step-is :
@@ -90,8 +92,8 @@ pub step-is :
     → gone ≡ (ltb e 16 && isEnded (getD (l .processes) (e % 16) noStanding .condition))
     → from ≡ slot c (channelOf l c) 0
     → ((moves : ℕ)
-    → changed r (i .a) (inStance (window (l .registers) base) s moves)
-    ≡ stepOf i (inStance (window (l .registers) base) s moves) (channelOf l c) (getD cells from (pos 0)) gone)
+    → changed r (i .a) (inStance (eight (l .registers) base) s moves)
+    ≡ stepOf i (inStance (eight (l .registers) base) s moves) (channelOf l c) (getD cells from (pos 0)) gone)
     → changed r (i .a) (processOf l p) ≡ stepFor p (world l cells)
 unfolding stepAt
 step-is l cells p own r {e = e} same long all low e₁ e₂ e₃ e₄ e₅ e₆ e₇ e₈ =
@@ -192,10 +194,10 @@ pick-is l cells moved last channel a r {p} long low a-low e₀ e₁ e₂ e₃ e�
     e₉
     (rw e₆ at e)
 
--- ---- what the loop over the picks keeps
--- after i picks the lane, cells and counts g₀ have become g; n is the lane's network
-pub record Partway (picks : List ℕ) (g₀ : Progress) (i : ℕ) (n : Network) (g : Progress) : Type 0 where
-  pub within : i ≤ length picks
+-- ---- what the loop over rounds of picks keeps
+-- at place i of a round, which so many may follow, the lane, cells and counts g₀ have become g; n is the lane's network. What is left of the
+-- round and then the rounds after it lead to the same end as all did at the start
+pub record Partway (picks : List ℕ) (again : ℕ) (g₀ : Progress) (i left : ℕ) (n : Network) (g : Progress) : Type 0 where
   pub there : (k : ℕ) → k < length picks → getD picks k 0 < n .processes
   pub same : n ≡ g .world .lane .network
   pub long₀ : length (g₀ .world .cells) ≡ 8192
@@ -203,7 +205,12 @@ pub record Partway (picks : List ℕ) (g₀ : Progress) (i : ℕ) (n : Network) 
   pub shaped : Shaped (g .world .lane)
   pub sound : Sound (g .world .lane)
   pub few : g .moved ≤ i
-  pub rest : pickAll (drop i picks) g ≡ pickAll picks g₀
+  pub rest : after left picks (pickAll (drop i picks) g) ≡ pickRounds again picks g₀
+
+-- where the loop's test stands: at the end of a round no other follows it
+pub record Between (picks : List ℕ) (again : ℕ) (g₀ : Progress) (s : Stage) (n : Network) (l : Lane) (cells : List ℤ) (last : Outcome) (channel : ℕ) : Type 0 where
+  pub part : Partway picks again g₀ (s .i) (s .again) n (progress l cells (s .moved) last channel)
+  pub ended : length picks ≤ s .i → (s .moved ≡ 0) ⊎ (s .again ≡ 0)
 
 -- the process that is picked next: its number, its position and its instruction's place in the code
 pub record Next (n : Network) (l : Lane) (p : ℕ) : Type 0 where
@@ -219,7 +226,7 @@ next-of l p s h =
     let w = ends-within (l .network) (e .slots-good) p h in
     record { there = h; low = omega (arith, e .processes-high); position = m; place = omega (arith, e .total-high) }
 
-pub next : {picks : List ℕ} {g₀ g : Progress} {i : ℕ} {n : Network} {p : ℕ} → Partway picks g₀ i n g → i < length picks → p ≡ getD picks i 0 → Next n (g .world .lane) p
+pub next : {picks : List ℕ} {again : ℕ} {g₀ g : Progress} {i left : ℕ} {n : Network} {p : ℕ} → Partway picks again g₀ i left n g → i < length picks → p ≡ getD picks i 0 → Next n (g .world .lane) p
 next {i = i} {p = p} s h e = rw (s .same) (next-of _ p (s .sound) (rw (e, ← s .same) (s .there i h)))
 
 -- what the step of a process of a sound lane requires: of its instruction
@@ -277,12 +284,13 @@ pick-rest : (picks : List ℕ) (i : ℕ) (g : Progress) → i < length picks →
 pick-rest picks i g h = rw (add-one, drop-cons picks i 0 h)
 
 -- one pick more
-more : (picks : List ℕ) (g₀ g : Progress) (i : ℕ) (n : Network) → Partway picks g₀ i n g → i < length picks → Partway picks g₀ (i + 1) n (pickNext (getD picks i 0) g)
+more :
+    (picks : List ℕ) (again : ℕ) (g₀ g : Progress) (i left : ℕ) (n : Network) → Partway picks again g₀ i left n g → i < length picks
+    → Partway picks again g₀ (i + 1) left n (pickNext (getD picks i 0) g)
 unfolding pickNext
-more picks g₀ g i n s h =
+more picks again g₀ g i left n s h =
     let p : ℕ = getD picks i 0 in
     record {
-      within = omega arith;
       there = s .there;
       same = s .same ∙ sym (pick-network p (g .world));
       long₀ = s .long₀;
@@ -290,19 +298,47 @@ more picks g₀ g i n s h =
       shaped = pick-shaped p (g .world) (s .shaped);
       sound = picked-sound p (g .world) (s .shaped) (rw (← s .same) (s .there i h)) (s .sound);
       few = few-more (hasMoved (stepFor p (g .world) .outcome)) (g .moved) i (s .few);
-      rest = pick-rest picks i g h ∙ s .rest;
+      rest = ap (λ (e : Progress). after left picks e) (pick-rest picks i g h) ∙ s .rest;
     }
 
-pub partway-more :
-    {picks : List ℕ} {g₀ g g′ : Progress} {i : ℕ} {n : Network} → Partway picks g₀ i n g → i < length picks → g′ ≡ pickNext (getD picks i 0) g
-    → Partway picks g₀ (i + 1) n g′
-partway-more {picks} {g₀} {g} {i = i} {n} s h e = rw e (more picks g₀ g i n s h)
+-- another round begins
+anew :
+    {picks : List ℕ} {again : ℕ} {g₀ g : Progress} {i left : ℕ} {n : Network} → Partway picks again g₀ i left n g → length picks ≤ i → 0 < g .moved → 0 < left
+    → Partway picks again g₀ 0 (left - 1) n (recounted g)
+anew {picks} {g = g} {left = left} s h m a =
+    record {
+      there = s .there;
+      same = s .same;
+      long₀ = s .long₀;
+      long = s .long;
+      shaped = s .shaped;
+      sound = s .sound;
+      few = omega arith;
+      rest = sym (one-after left picks g m a) ∙ (rw (drop-of-length-le picks h) at (s .rest));
+    }
 
--- no pick left
-pub partway-all : {picks : List ℕ} {g₀ g : Progress} {i : ℕ} {n : Network} → Partway picks g₀ i n g → length picks ≤ i → g ≡ pickAll picks g₀
-partway-all {picks} s h = rw (drop-of-length-le picks h) at (s .rest)
+module _ {picks : List ℕ} {again : ℕ} {g₀ : Progress} {s : Stage} {n : Network} {l : Lane} {cells : List ℤ} {last : Outcome} {channel : ℕ} where
+  -- one pick more, and where the loop goes on after it
+  pub partway-more :
+      (gained : ℕ) {l′ : Lane} {cells′ : List ℤ} {last′ : Outcome} {channel′ : ℕ} {t : Stage}
+      → Between picks again g₀ s n l cells last channel
+      → s .i < length picks
+      → progress l′ cells′ (s .moved + gained) last′ channel′ ≡ pickNext (getD picks (s .i) 0) (progress l cells (s .moved) last channel)
+      → t ≡ onwardOf s gained (length picks)
+      → Between picks again g₀ t n l′ cells′ last′ channel′
+  partway-more gained {l′} {cells′} {last′} {channel′} b h e f =
+      let p : Partway picks again g₀ (s .i + 1) (s .again) n (progress l′ cells′ (s .moved + gained) last′ channel′) = rw e (more picks again g₀ _ (s .i) (s .again) n (b .part) h) in
+      rw f
+      (onward-either (λ (t : Stage). Between picks again g₀ t n l′ cells′ last′ channel′) s gained (length picks)
+      (λ w. record { part = p; ended = w })
+      (λ w m a. record { part = anew p w m a; ended = λ z. inl refl }))
 
-pub channels-low : {picks : List ℕ} {g₀ g : Progress} {i : ℕ} {n : Network} → Partway picks g₀ i n g → n .channels ≤ 32
+  -- no pick left
+  pub partway-all : Between picks again g₀ s n l cells last channel → length picks ≤ s .i → roundsEnd (progress l cells (s .moved) last channel) (s .again) ≡ pickRounds again picks g₀
+  partway-all b h =
+      sym (none-after (s .again) picks (progress l cells (s .moved) last channel) (b .ended h)) ∙ (rw (drop-of-length-le picks h) at (b .part .rest))
+
+pub channels-low : {picks : List ℕ} {again : ℕ} {g₀ g : Progress} {i left : ℕ} {n : Network} → Partway picks again g₀ i left n g → n .channels ≤ 32
 channels-low s = rw (s .same) (passed _ (s .sound .passed) .channels-high)
 
 -- which arm a choice is, from a flag u that was tested

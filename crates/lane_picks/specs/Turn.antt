@@ -1,10 +1,12 @@
 -- One pick as the code makes it, part by part: the cell of a message, the end of a process, the ends of the channels.
 -- Assumes nothing.
-use mathlib.Core.Bool.{Bool, true, false}
+use mathlib.Core.Bool.{Bool, true, false, cond, _||_}
 use mathlib.Core.List.{List, []}
-use Prim.Native.Nat.{ℕ}
+use Prim.Native.Nat.{ℕ, _+_, _-_}
+use lib.Dec.{eqb, ltb}
 use lib.IntN.{ℤ}
 use Rattle.network.specs.declared.Network.{Network}
+use Rattle.lane_picks.specs.declared.Stage.{Stage}
 use Rattle.process.specs.declared.Outcome.{Outcome}
 use Rattle.process.specs.declared.Outcome.the-variants.{Moved, Sent, Halted, WaitEmpty, WaitFull, Ended}
 
@@ -30,3 +32,10 @@ isHalted Ended = false
 abbrev pub ends : List ℕ → List ℕ → ℕ → Network
 ends sender receiver channels =
     record { processes = 0; channels = channels; first = []; count = []; sender = sender; receiver = receiver; capacity = []; code = [] }
+
+-- where the loop goes on after a pick that moved so many, one or none: at the end of a round with a move another one begins, if one may follow
+abbrev pub onwardOf : Stage → ℕ → ℕ → Stage
+onwardOf s gained length =
+    cond (ltb (s .i + 1) length || eqb (s .moved + gained) 0 || eqb (s .again) 0)
+    (record { i = s .i + 1; moved = s .moved + gained; again = s .again })
+    (record { i = 0; moved = 0; again = s .again - 1 })

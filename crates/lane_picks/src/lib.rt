@@ -19,8 +19,8 @@ ghost use Rattle.process.specs.Channels.{slot, dropOne};
 ghost use Rattle.process.specs.Changes.{movesAfter};
 ghost use Rattle.lane.specs.State.{world};
 ghost use Rattle.lane.specs.Sound.{soundOf};
-ghost use Rattle.lane.specs.Pick.{channelIn, dropFrom, hasMoved, progressOf, pickAll, unpicked};
-ghost use Rattle.lane_picks.specs.Turn.{wordAfter, isHalted, ends};
+ghost use Rattle.lane.specs.Pick.{channelIn, dropFrom, hasMoved, progressOf, pickAll, roundsOf, pickRounds, unpicked};
+ghost use Rattle.lane_picks.specs.Turn.{wordAfter, isHalted, ends, onwardOf};
 
 // ---- the process that is picked
 // Where the registers of process p begin.
@@ -58,8 +58,9 @@ fn number(pick: u8) -> usize
     pick as usize
 }
 
-// The number of the instruction at a position of a process that starts there.
-fn place(start: u16, position: u16) -> usize
+// The number of the instruction at a position of a process that starts there. Public for relief, which reads the instruction of a
+// process too, of a sound lane.
+pub fn place(start: u16, position: u16) -> usize
     requires { ⌜ start + position < 1016 ⌝ }
     ensures { λ r. ⌜ (r ≡ start + position) × (r < 1016) ⌝ }
 {
@@ -67,7 +68,8 @@ fn place(start: u16, position: u16) -> usize
 }
 
 // ---- its channel
-fn channel_of(i: Instruction) -> usize
+// The channel of an instruction. Public for relief, which reads the instruction of a process too.
+pub fn channel_of(i: Instruction) -> usize
     ensures { λ r. ⌜ (r ≡ channelIn i) × (r < 32) ⌝ }
 {
     (i.b % 32) as usize
@@ -79,13 +81,6 @@ pub fn slot(c: usize, channel: Channel, i: u16) -> usize
     ensures { λ r. ⌜ (r ≡ slot c channel i) × (r < 8192) ⌝ }
 {
     256 * c + ((channel.oldest as usize) + (i as usize)) % 256
-}
-
-// An end of a channel as a number.
-pub fn end(e: u8) -> usize
-    ensures { λ r. ⌜ r ≡ e ⌝ }
-{
-    e as usize
 }
 
 // ---- what the step did
@@ -196,27 +191,66 @@ fn drop_all<'a>(
     let mut hs = channels;
     let mut c = 0;
     while c < count {
-        let sends = end(sender[c]) == p;
-        let receives = end(receiver[c]) == p;
+        let sends = base::wide(sender[c]) == p;
+        let receives = base::wide(receiver[c]) == p;
         hs[c] = drop_one(sends, receives, hs[c]);
         c += 1;
     }
     hs
 }
 
-// Picks one after the other. Public for the crates above, which have shown what it requires: the lane is sound, the
-// cells are 8,192, and each pick names a process.
-pub fn pick_all(lane: Lane, cells: &mut [i32], picks: &[u8]) -> Ran
+// ---- rounds
+// Where a loop over rounds of so many picks stands: the place of the next pick, the moves of its round, and how many rounds may follow it.
+struct Stage {
+    i: usize,
+    moved: u64,
+    again: u64,
+}
+
+// Before the first pick of a round, after which so many may follow.
+fn beginning(again: u64) -> Stage
+    ensures { λ r. ⌜ r ≡ record { i = 0; moved = 0; again = again } ⌝ }
+{
+    Stage {
+        i: 0,
+        moved: 0,
+        again,
+    }
+}
+
+// After a pick that moved so many, one or none: at the end of a round with a move another one begins, if one may follow.
+fn onward(stage: Stage, gained: u64, length: usize) -> Stage
+    requires { ⌜ (stage .i < length) × (stage .moved ≤ stage .i) × (gained ≤ 1) ⌝ }
+    ensures { λ r. ⌜ r ≡ onwardOf stage gained length ⌝ }
+{
+    let i = stage.i + 1;
+    let moved = stage.moved + gained;
+    let again = stage.again;
+    if i < length {
+        return Stage { i, moved, again };
+    }
+    if moved == 0 {
+        return Stage { i, moved, again };
+    }
+    if again == 0 {
+        return Stage { i, moved, again };
+    }
+    beginning(again - 1)
+}
+
+// Rounds of picks, each one after the other: one, and so many more as long as the round before had a move. Public for the crates above,
+// which have shown what it requires: the lane is sound, the cells are 8,192, and each pick names a process.
+pub fn pick_rounds(lane: Lane, cells: &mut [i32], picks: &[u8], again: u64) -> Ran
     requires { ⌜ (soundOf lane ≡ true) × (length (now cells) ≡ 8192) × ((k : ℕ) → k < length (now picks) → getD (now picks) k 0 < lane .network .processes) ⌝ }
-    ensures { λ r. ⌜ progressOf r (now (cells .exit)) ≡ pickAll (now (picks .entry)) (unpicked (world lane (now (cells .entry)))) ⌝ }
+    ensures { λ r. ⌜ roundsOf r (now (cells .exit)) ≡ pickRounds again (now (picks .entry)) (unpicked (world lane (now (cells .entry)))) ⌝ }
 {
     let net = lane.network;
     let mut l = lane;
-    let mut moved: u64 = 0;
+    let mut stage = beginning(again);
     let mut last = Outcome::Ended;
     let mut channel: usize = 0;
-    let mut i = 0;
-    while i < picks.len() {
+    while stage.i < picks.len() {
+        let i = stage.i;
         let p = number(picks[i]);
         let standing = l.processes[p];
         let at = place(net.first[p], standing.position);
@@ -225,7 +259,7 @@ pub fn pick_all(lane: Lane, cells: &mut [i32], picks: &[u8]) -> Ran
         let stance = stance_of(l.registers[own], standing);
         channel = channel_of(instruction);
         let h = l.channels[channel];
-        let e = end(net.receiver[channel]);
+        let e = base::wide(net.receiver[channel]);
         let gone = ended_if(e, l.processes[e % 16]);
         let next = cells[slot(channel, h, 0)];
         let change = step(instruction, &l.registers, base_of(p), stance, h, next, gone);
@@ -235,8 +269,7 @@ pub fn pick_all(lane: Lane, cells: &mut [i32], picks: &[u8]) -> Ran
         l.channels[channel] = channel_after(change);
         last = change.outcome;
         put_message(cells, slot(channel, h, h.held), last);
-        moved += gained(last);
-        i += 1;
+        stage = onward(stage, gained(last), picks.len());
         if halted(last) {
             let channels = l.channels;
             l.channels = drop_all(&net.sender, &net.receiver, net.channels, channels, p);
@@ -244,8 +277,17 @@ pub fn pick_all(lane: Lane, cells: &mut [i32], picks: &[u8]) -> Ran
     }
     Ran {
         lane: l,
-        moved,
+        moved: stage.moved,
         last,
         channel,
+        left: stage.again,
     }
+}
+
+// Picks one after the other: a single round. Public for the crates above, which have shown what it requires.
+pub fn pick_all(lane: Lane, cells: &mut [i32], picks: &[u8]) -> Ran
+    requires { ⌜ (soundOf lane ≡ true) × (length (now cells) ≡ 8192) × ((k : ℕ) → k < length (now picks) → getD (now picks) k 0 < lane .network .processes) ⌝ }
+    ensures { λ r. ⌜ progressOf r (now (cells .exit)) ≡ pickAll (now (picks .entry)) (unpicked (world lane (now (cells .entry)))) ⌝ }
+{
+    pick_rounds(lane, cells, picks, 0)
 }

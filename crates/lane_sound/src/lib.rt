@@ -65,19 +65,27 @@ pub fn sound(lane: Lane) -> bool
     if !network::passes(net) {
         return false;
     }
-    let Verdict::Good = soundness::positions(lane) else {
+    let processes = lane.processes;
+    let Verdict::Good = soundness::positions(&net.count, processes, net.processes) else {
         return false;
     };
-    let Verdict::Good = soundness::channels(lane) else {
+    let channels = lane.channels;
+    let Verdict::Good = soundness::channels(
+        &net.sender,
+        &net.receiver,
+        processes,
+        channels,
+        net.channels,
+    ) else {
         return false;
     };
-    let Verdict::Good = soundness::unused_standings(lane) else {
+    let Verdict::Good = soundness::unused_standings(processes, net.processes) else {
         return false;
     };
-    let Verdict::Good = soundness::unused_registers(lane) else {
+    let Verdict::Good = soundness::unused_registers(&lane.registers, net.processes) else {
         return false;
     };
-    let Verdict::Good = soundness::unused_channels(lane) else {
+    let Verdict::Good = soundness::unused_channels(channels, net.channels) else {
         return false;
     };
     true

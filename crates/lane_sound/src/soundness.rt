@@ -1,4 +1,6 @@
 // When a lane is sound: the tests of its parts, public for `sound` alone, which tests the network first: at most 16 processes, at most 32 channels.
+// Each is handed the arrays that it reads and no lane, which is long. Arrays of numbers are lent; the short ones of structs come by value, since a
+// reference to structs is not a covered form.
 use base::Verdict;
 use lane::Lane;
 use lane::Standing;
@@ -97,15 +99,14 @@ fn channel_zero(h: Channel) -> bool
 }
 
 // The first process whose position is not below its count.
-pub fn positions(lane: Lane) -> Verdict
-    requires { ⌜ lane .network .processes ≤ 16 ⌝ }
-    ensures { λ r. ⌜ r ≡ firstBad (positionSound lane) 0 (lane .network .processes) ⌝ }
+pub fn positions(count: &[u16; 16], processes: [Standing; 16], used: usize) -> Verdict
+    requires { ⌜ used ≤ 16 ⌝ }
+    ensures { λ r. ⌜ ((lane : Lane) → lane .network .count ≡ now (count .entry) → lane .processes ≡ processes → r ≡ firstBad (positionSound lane) 0 used) ⌝ }
 {
-    let net = lane.network;
-    let mut p = 0;
-    while p < net.processes {
-        let s = lane.processes[p];
-        if net.count[p] <= s.position {
+    let mut p: usize = 0;
+    while p < used {
+        let s = processes[p];
+        if count[p] <= s.position {
             return Verdict::Bad(p);
         }
         p += 1;
@@ -114,19 +115,24 @@ pub fn positions(lane: Lane) -> Verdict
 }
 
 // The first channel in use that is not sound.
-pub fn channels(lane: Lane) -> Verdict
-    requires { ⌜ lane .network .channels ≤ 32 ⌝ }
-    ensures { λ r. ⌜ r ≡ firstBad (channelSoundAt lane) 0 (lane .network .channels) ⌝ }
+pub fn channels<'a>(
+    sender: &'a [u8; 32],
+    receiver: &'a [u8; 32],
+    processes: [Standing; 16],
+    channels: [Channel; 32],
+    used: usize,
+) -> Verdict
+    requires { ⌜ used ≤ 32 ⌝ }
+    ensures { λ r. ⌜ ((lane : Lane) → lane .network .sender ≡ now (sender .entry) → lane .network .receiver ≡ now (receiver .entry) → lane .processes ≡ processes → lane .channels ≡ channels → r ≡ firstBad (channelSoundAt lane) 0 used) ⌝ }
 {
-    let net = lane.network;
-    let mut c = 0;
-    while c < net.channels {
-        let sender = net.sender[c] as usize;
-        let receiver = net.receiver[c] as usize;
-        let s = lane.processes[sender % 16];
-        let r = lane.processes[receiver % 16];
-        let h = lane.channels[c];
-        if !channel_sound(ended_if(sender, s), ended_if(receiver, r), h) {
+    let mut c: usize = 0;
+    while c < used {
+        let from = base::wide(sender[c]);
+        let to = base::wide(receiver[c]);
+        let s = processes[from % 16];
+        let r = processes[to % 16];
+        let h = channels[c];
+        if !channel_sound(ended_if(from, s), ended_if(to, r), h) {
             return Verdict::Bad(c);
         }
         c += 1;
@@ -135,12 +141,12 @@ pub fn channels(lane: Lane) -> Verdict
 }
 
 // The first process not in use that is not zero.
-pub fn unused_standings(lane: Lane) -> Verdict
-    ensures { λ r. ⌜ r ≡ firstBad (λ p. standingZero (standingOf lane p)) (lane .network .processes) (16 - lane .network .processes) ⌝ }
+pub fn unused_standings(processes: [Standing; 16], used: usize) -> Verdict
+    ensures { λ r. ⌜ ((lane : Lane) → lane .processes ≡ processes → r ≡ firstBad (λ p. standingZero (standingOf lane p)) used (16 - used)) ⌝ }
 {
-    let mut p = lane.network.processes;
+    let mut p = used;
     while p < 16 {
-        let s = lane.processes[p];
+        let s = processes[p];
         if !standing_zero(s) {
             return Verdict::Bad(p);
         }
@@ -150,13 +156,13 @@ pub fn unused_standings(lane: Lane) -> Verdict
 }
 
 // The first register of a process not in use that is not zero.
-pub fn unused_registers(lane: Lane) -> Verdict
-    requires { ⌜ lane .network .processes ≤ 16 ⌝ }
-    ensures { λ r. ⌜ r ≡ firstBad (λ r. isNull (getD (lane .registers) r (pos 0))) (8 * lane .network .processes) (128 - 8 * lane .network .processes) ⌝ }
+pub fn unused_registers(registers: &[i32; 128], used: usize) -> Verdict
+    requires { ⌜ used ≤ 16 ⌝ }
+    ensures { λ s. ⌜ s ≡ firstBad (λ r. isNull (getD (now (registers .entry)) r (pos 0))) (8 * used) (128 - 8 * used) ⌝ }
 {
-    let mut r = 8 * lane.network.processes;
+    let mut r = 8 * used;
     while r < 128 {
-        if lane.registers[r] != 0 {
+        if registers[r] != 0 {
             return Verdict::Bad(r);
         }
         r += 1;
@@ -165,12 +171,12 @@ pub fn unused_registers(lane: Lane) -> Verdict
 }
 
 // The first channel not in use that is not zero.
-pub fn unused_channels(lane: Lane) -> Verdict
-    ensures { λ r. ⌜ r ≡ firstBad (λ c. channelZero (channelOf lane c)) (lane .network .channels) (32 - lane .network .channels) ⌝ }
+pub fn unused_channels(channels: [Channel; 32], used: usize) -> Verdict
+    ensures { λ r. ⌜ ((lane : Lane) → lane .channels ≡ channels → r ≡ firstBad (λ c. channelZero (channelOf lane c)) used (32 - used)) ⌝ }
 {
-    let mut c = lane.network.channels;
+    let mut c = used;
     while c < 32 {
-        let h = lane.channels[c];
+        let h = channels[c];
         if !channel_zero(h) {
             return Verdict::Bad(c);
         }

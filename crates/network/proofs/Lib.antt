@@ -1,4 +1,4 @@
-pub mod Conjunction
+pub mod Last
 pub mod Slot
 pub mod Passed
 pub mod Unused

@@ -9,7 +9,7 @@ use Rattle.base.specs.declared.Verdict.the-variants.{Good}
 use Rattle.base.specs.Tests.{isGood}
 use Rattle.network.specs.declared.Network.{Network}
 use Rattle.network.specs.Rules.{slots, total, blocksFor, records, unusedSlots, unusedRecords, unusedCode, unusedZero, instructions, passes}
-use Rattle.network.proofs.Conjunction.{both-true, good-is, between-true, true-between}
+use Rattle.base.proofs.Conjunction.{both-true, good-is, between-true, true-between}
 use Rattle.network.proofs.Slot.{right-at, ends-within}
 
 pub record Passed (n : Network) : Type 0 where

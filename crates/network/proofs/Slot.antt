@@ -10,7 +10,7 @@ use Rattle.base.specs.Tests.{need}
 use Rattle.base.proofs.Tests.{each, need-true}
 use Rattle.network.specs.declared.Network.{Network}
 use Rattle.network.specs.Rules.{startOf, countOf, endOf, dueStart, slotRight, slots, total}
-use Rattle.network.proofs.Conjunction.{both-true, between-true}
+use Rattle.base.proofs.Conjunction.{both-true, between-true}
 
 -- the process after p is due where p ends
 pub due-next : (n : Network) (p : ℕ) → dueStart n (p + 1) ≡ endOf n p

@@ -1,16 +1,10 @@
-// Some ten million picks on three fixed lanes: a ring of two, a pipeline of sixteen, an arithmetic loop. Prints how many of them moved; the
-// instructions that a pick takes are counted over it.
+// Some five million picks on three fixed lanes, a ring of two, a pipeline of sixteen, an arithmetic loop: in runs, and in drives. An argument names
+// one of the two, `run` or `drive`, by its first letter, for a count of the instructions that a pick takes; without one both are made. Prints how
+// many picks moved.
 use lane::Lane;
 use lane_file::Answer;
-ghost use mathlib.Core.Path.{_≡_};
 
 const OUT: i32 = 1;
-
-fn wide(x: u8) -> usize
-    ensures { λ r. ⌜ r ≡ x ⌝ }
-{
-    x as usize
-}
 
 // Processes 0, 1, .. in turn.
 fn round_robin(processes: usize) -> [u8; 4096] {
@@ -18,7 +12,7 @@ fn round_robin(processes: usize) -> [u8; 4096] {
     let mut k: usize = 0;
     let mut p: u8 = 0;
     while k < 4096 {
-        if processes <= wide(p) {
+        if processes <= base::wide(p) {
             p = 0;
         }
         picks[k] = p;
@@ -30,8 +24,12 @@ fn round_robin(processes: usize) -> [u8; 4096] {
     picks
 }
 
-// The picks, as a run.
-fn lap(lane: Lane, cells: &mut [i32], picks: &[u8]) -> Lane {
+// The picks, as a run or as a drive, which picks in turn by itself.
+fn lap(lane: Lane, cells: &mut [i32], picks: &[u8], drives: bool) -> Lane {
+    if drives {
+        let driven = schedule::drive(lane, cells, 4096);
+        return driven.lane;
+    }
     let ran = schedule::run(lane, cells, picks);
     ran.lane
 }
@@ -48,19 +46,19 @@ fn moves(lane: Lane) -> u64 {
     sum
 }
 
-// 814 times 4,096 picks.
-fn laps(lane: Lane, cells: &mut [i32], picks: &[u8]) -> u64 {
+// 407 times 4,096 picks.
+fn laps(lane: Lane, cells: &mut [i32], picks: &[u8], drives: bool) -> u64 {
     let mut l = lane;
     let mut k: usize = 0;
-    while k < 814 {
-        l = lap(l, cells, picks);
+    while k < 407 {
+        l = lap(l, cells, picks, drives);
         k += 1;
     }
     moves(l)
 }
 
-fn pace(name: &[u8], file: [u8; 1024]) {
-    let reading = lane_reader::read(&file);
+fn pace(name: &[u8], file: &[u8], drives: bool) {
+    let reading = lane_reader::read(file);
     let answer = reading.answer;
     if let Answer::Accepted = answer {
         let net = reading.network;
@@ -69,6 +67,7 @@ fn pace(name: &[u8], file: [u8; 1024]) {
             lane_sound::fresh(net),
             &mut cells,
             &round_robin(net.processes),
+            drives,
         );
         io::write_all(OUT, name);
         io::write_all(OUT, b": ");
@@ -77,14 +76,25 @@ fn pace(name: &[u8], file: [u8; 1024]) {
     }
 }
 
+// The three lanes, one after the other.
+fn paces(drives: bool) {
+    let mut file = [0u8; 1024];
+    io::read_full(os::open_read(b"ring.bin"), &mut file);
+    pace(b"ring", &file, drives);
+    io::read_full(os::open_read(b"pipeline.bin"), &mut file);
+    pace(b"pipeline", &file, drives);
+    io::read_full(os::open_read(b"arithmetic.bin"), &mut file);
+    pace(b"arithmetic", &file, drives);
+}
+
 fn main() {
-    let mut ring = [0u8; 1024];
-    io::read_full(os::open_read(b"ring.bin"), &mut ring);
-    pace(b"ring", ring);
-    let mut pipeline = [0u8; 1024];
-    io::read_full(os::open_read(b"pipeline.bin"), &mut pipeline);
-    pace(b"pipeline", pipeline);
-    let mut arithmetic = [0u8; 1024];
-    io::read_full(os::open_read(b"arithmetic.bin"), &mut arithmetic);
-    pace(b"arithmetic", arithmetic);
+    let mut word = [0u8; 8];
+    os::arg(1, &mut word);
+    let what = word[0];
+    if what == 0 || what == 114 {
+        paces(false);
+    }
+    if what == 0 || what == 100 {
+        paces(true);
+    }
 }

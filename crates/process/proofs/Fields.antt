@@ -1,6 +1,6 @@
 -- What an instruction's function requires, from what a step does: the registers that a right instruction names are below 8.
 -- Assumes nothing.
-use mathlib.Core.Path.{_≡_, refl, sym, subst, _∙_}
+use mathlib.Core.Path.{_≡_, refl, sym, ap, subst, _∙_}
 use mathlib.Core.Bool.{Bool, true, false, _&&_}
 use mathlib.Core.List.{List}
 use Prim.Native.Nat.{ℕ, zero, suc, _+_, _≤_, _<_}
@@ -8,8 +8,8 @@ use native.Mathlib.Decide.{decLt, ℕ-discrete}
 use native.Mathlib.Omega.{arith}
 use lib.Dec.{T}
 use lib.IntN.{ℤ, pos}
-use lib.ListN.{getD, set, drop, List·getD-eq-default}
-use lib.Seq.{getD-take, getD-drop, set-getD}
+use lib.ListN.{getD, set, List·getD-eq-default}
+use lib.Seq.{set-getD}
 use borrow.Author.Tests.{ltb-true, eqb-true}
 use Rattle.network.specs.Code.{register, unnamed, fieldsRight}
 use Rattle.network.specs.declared.Instruction.{Instruction}
@@ -18,7 +18,8 @@ use Rattle.process.specs.declared.Stance.{Stance}
 use Rattle.process.specs.Process.{Process}
 use Rattle.process.specs.Intent.{halt}
 use Rattle.process.specs.Want.{faulted, wantLive}
-use Rattle.process.specs.Changes.{window, Steppable}
+use Rattle.process.specs.Window.{at, eight}
+use Rattle.process.specs.Changes.{Steppable}
 
 pub both : (s t : Bool) → s && t ≡ true → (s ≡ true) × (t ≡ true)
 both true t e = (refl, e)
@@ -103,9 +104,17 @@ own-low count receives sends i r =
     (λ l. let z : false ≡ true = rw List·getD-eq-default at r in absurd (subst T (sym z) tt))
 
 -- register r of the eight is the file's from the base on
-pub register-in : (file : List ℤ) (base r : ℕ) → r < 8 → getD (window file base) r (pos 0) ≡ getD file (base + r) (pos 0)
-unfolding window
-register-in file base r l = getD-take 8 (drop base file) r (pos 0) l ∙ getD-drop base file r (pos 0)
+pub register-in : (file : List ℤ) (base r : ℕ) → r < 8 → at (eight file base) r ≡ at file (base + r)
+unfolding eight
+register-in file base zero l = ap (at file) (omega arith)
+register-in file base (suc zero) l = ap (at file) (omega arith)
+register-in file base (suc (suc zero)) l = ap (at file) (omega arith)
+register-in file base (suc (suc (suc zero))) l = ap (at file) (omega arith)
+register-in file base (suc (suc (suc (suc zero)))) l = ap (at file) (omega arith)
+register-in file base (suc (suc (suc (suc (suc zero))))) l = ap (at file) (omega arith)
+register-in file base (suc (suc (suc (suc (suc (suc zero)))))) l = ap (at file) (omega arith)
+register-in file base (suc (suc (suc (suc (suc (suc (suc zero))))))) l = ap (at file) (omega arith)
+register-in file base (suc (suc (suc (suc (suc (suc (suc (suc r)))))))) l = absurd (omega arith)
 
 -- a register's own value put into it
 pub kept : (registers : List ℤ) (a : ℕ) {v : ℤ} → v ≡ getD registers a (pos 0) → set registers a v ≡ registers
@@ -113,7 +122,7 @@ kept registers a e = rw e (set-getD registers a (pos 0))
 
 module _ {i : Instruction} {file : List ℤ} {base : ℕ} {s : Stance} {h : Channel} (k : Steppable i file base s h) where
   -- register a is at hand
-  pub at-hand : s .own ≡ getD (window file base) (i .a) (pos 0)
+  pub at-hand : s .own ≡ getD (eight file base) (i .a) (pos 0)
   at-hand = k .own ∙ sym (register-in file base (i .a) (own-low (k .count) (k .receives) (k .sends) i (k .right)))
 
   pub two : (t : Bool) → register (i .a) && register (i .b) && t ≡ true → (base ≤ 120) × (i .b < 8) × (s .position < 256)

@@ -5,7 +5,7 @@ use mathlib.Core.Bool.{Bool, true}
 use mathlib.Core.Path.{_≡_}
 use mathlib.Core.List.{List}
 use Prim.Native.Nat.{ℕ, _+_, _≤_, _<_}
-use lib.ListN.{getD, set, take, drop}
+use lib.ListN.{getD, set}
 use lib.IntN.{ℤ, pos}
 use Rattle.network.specs.Code.{fieldsRight}
 use Rattle.network.specs.declared.Instruction.{Instruction}
@@ -17,10 +17,6 @@ use Rattle.process.specs.declared.Change.{Change}
 use Rattle.process.specs.Process.{Process, Stepped}
 use Rattle.process.specs.Want.{counted}
 use Rattle.process.specs.Execute.{outcome}
-
--- the eight registers of a file from a base on
-unfoldable pub window : List ℤ → ℕ → List ℤ
-window file base = take 8 (drop base file)
 
 -- a process with these registers that stands so and has moved so often
 abbrev pub inStance : List ℤ → Stance → ℕ → Process

@@ -3,4 +3,5 @@ pub mod Process
 pub mod Intent
 pub mod Want
 pub mod Execute
+pub mod Window
 pub mod Changes

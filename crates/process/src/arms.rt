@@ -16,7 +16,8 @@ ghost use Rattle.arithmetic.specs.Quotient.{quotientOf, remainderOf};
 ghost use Rattle.process.specs.Intent.{receive, send, close};
 ghost use Rattle.process.specs.Want.{registerOf, moved, onward, assigned, jumped, stopped, faulted, signed16, isNull, isNegative, divided, wantLive};
 ghost use Rattle.process.specs.Execute.{outcome, execute};
-ghost use Rattle.process.specs.Changes.{window, inStance, changed, Means, Steppable};
+ghost use Rattle.process.specs.Window.{eight};
+ghost use Rattle.process.specs.Changes.{inStance, changed, Means, Steppable};
 
 // Register r of the process whose registers lie from a base on.
 fn register(file: &[i32; 128], base: usize, r: u8) -> i32
@@ -293,7 +294,7 @@ pub fn execute(
     gone: bool,
 ) -> Change
     requires { ⌜ Steppable i (now file) base stance channel ⌝ }
-    ensures { λ r. ⌜ ((moves : ℕ) → changed r (i .a) (inStance (window (now (file .entry)) base) stance moves) ≡ execute (wantLive i (inStance (window (now (file .entry)) base) stance moves)) (inStance (window (now (file .entry)) base) stance moves) channel message gone) ⌝ }
+    ensures { λ r. ⌜ ((moves : ℕ) → changed r (i .a) (inStance (eight (now (file .entry)) base) stance moves) ≡ execute (wantLive i (inStance (eight (now (file .entry)) base) stance moves)) (inStance (eight (now (file .entry)) base) stance moves) channel message gone) ⌝ }
 {
     let op = i.op;
     match op {

@@ -8,7 +8,8 @@ ghost use Prim.Native.Nat.{ℕ, _+_, _≤_, _<_};
 ghost use Rattle.process.specs.Channels.{putOne, getOne, closeOne, emptyOne, enlargeOne};
 ghost use Rattle.process.specs.Want.{counted};
 ghost use Rattle.process.specs.Execute.{stepOf};
-ghost use Rattle.process.specs.Changes.{window, inStance, changed, Steppable};
+ghost use Rattle.process.specs.Window.{eight};
+ghost use Rattle.process.specs.Changes.{inStance, changed, Steppable};
 
 pub enum Condition {
     Live,
@@ -116,7 +117,7 @@ pub fn step(
     gone: bool,
 ) -> Change
     requires { ⌜ Steppable i (now file) base stance channel ⌝ }
-    ensures { λ r. ⌜ ((moves : ℕ) → changed r (i .a) (inStance (window (now (file .entry)) base) stance moves) ≡ stepOf i (inStance (window (now (file .entry)) base) stance moves) channel message gone) ⌝ }
+    ensures { λ r. ⌜ ((moves : ℕ) → changed r (i .a) (inStance (eight (now (file .entry)) base) stance moves) ≡ stepOf i (inStance (eight (now (file .entry)) base) stance moves) channel message gone) ⌝ }
 {
     let condition = stance.condition;
     match condition {

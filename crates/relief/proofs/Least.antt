@@ -10,7 +10,7 @@ use native.Mathlib.Omega.{arith}
 use borrow.Author.Tests.{lt-ltb, ltb-true, ltb-false, eq-eqb, eqb-true, eqb-false, ne-eqb, not-true}
 use lib.Dec.{eqb, ltb}
 use lib.ListN.{length, getD}
-use Rattle.network.proofs.Conjunction.{both-true}
+use Rattle.base.proofs.Conjunction.{both-true}
 use Rattle.relief.specs.Rings.{someBelow, lesser, least}
 
 -- ---- tests

@@ -2,7 +2,7 @@ pub mod Least
 pub mod First
 pub mod Walk
 pub mod Front
-pub mod Waiting
+pub mod WaitLaws
 pub mod Enlarged
 pub mod Pigeonhole
 pub mod Circles

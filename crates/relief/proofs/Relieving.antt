@@ -25,7 +25,7 @@ use Rattle.relief.specs.Rings.{iter, OnRing, Found, noRing, ceiling, fou
 use Rattle.relief.specs.Taken.{OnFullRing, Taken}
 use Rattle.relief.specs.Relief.{Told, enlarged, refused, relief, foundIn, grown, settled, relieveOf}
 use Rattle.relief.proofs.Walk.{Stays}
-use Rattle.relief.proofs.Waiting.{wait-any}
+use Rattle.relief.proofs.WaitLaws.{wait-any}
 use Rattle.relief.proofs.Rule.{found-exactly, none-exactly, ceiling-exactly}
 
 -- ---- a sound lane is as the laws of rings want it

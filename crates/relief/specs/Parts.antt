@@ -1,29 +1,46 @@
--- What the parts of relief hand on to one another: the wait of a process as three numbers, arrays of them as functions, and what the search
--- gives, in the terms of `Rings`. `relieve` says nothing of these.
+-- What the parts of relief hand on to one another: how a process waits, its wait as three numbers, arrays of them as functions, and what the
+-- search gives, in the terms of `Rings`. `relieve` says nothing of these.
 -- Assumes nothing.
-use mathlib.Core.Bool.{cond}
+use mathlib.Core.Bool.{Bool, cond, not, _&&_}
 use mathlib.Core.List.{List}
 use Prim.Native.Nat.{ℕ}
 use lib.Dec.{eqb, ltb}
 use lib.ListN.{getD, take}
 use Rattle.network.specs.Rules.{outside}
-use Rattle.process.specs.declared.Outcome.{Outcome}
-use Rattle.process.specs.declared.Outcome.the-variants.{Moved, Sent, Halted, WaitEmpty, WaitFull, Ended}
+use Rattle.process.specs.declared.Channel.{Channel}
+use Rattle.process.specs.Execute.{full}
+use Rattle.relief.specs.declared.Waiting.{Waiting}
+use Rattle.relief.specs.declared.Waiting.the-variants.{Free, Empty, Full}
+use Rattle.relief.specs.declared.Way.{Way}
 use Rattle.relief.specs.declared.Wait.{Wait}
 use Rattle.relief.specs.declared.Sought.{Sought}
+use Rattle.relief.specs.Waits as waits
 use Rattle.relief.specs.Rings.{Found, noRing, ceiling, found}
+
+-- how a process waits that stands at this opcode, live or not, at this channel, whose receiver has ended or not: "A live process that would wait
+-- if picked", at a receive (11) that is "empty and open", or at a send (12), where "sending to a full one waits" and a closed one faults
+unfoldable pub waitingOf : ℕ → Bool → Channel → Bool → Waiting
+waitingOf op live h gone =
+    cond (live && not (h .closed)) (cond (eqb op 11 && eqb (h .held) 0) Empty (cond (eqb op 12 && full gone h) Full Free)) Free
+
+-- the same as an element of an array
+abbrev pub way : Waiting → Way
+way waiting = record { waiting = waiting }
+
+-- at channel c, in the terms of the rule
+abbrev pub waitAs : Waiting → ℕ → waits.Wait
+waitAs Free c = waits.free
+waitAs Empty c = waits.forMessage c
+waitAs Full c = waits.forRoom c
 
 abbrev pub wait : ℕ → ℕ → ℕ → Wait
 wait points full channel = record { points = points; full = full; channel = channel }
 
--- the wait of a process whose step had an outcome at channel c, from sender to receiver, of a capacity
-abbrev pub waitFrom : Outcome → ℕ → ℕ → ℕ → ℕ → Wait
-waitFrom Moved c sender receiver capacity = wait outside 0 0
-waitFrom (Sent v) c sender receiver capacity = wait outside 0 0
-waitFrom Halted c sender receiver capacity = wait outside 0 0
-waitFrom WaitEmpty c sender receiver capacity = wait sender 0 c
-waitFrom WaitFull c sender receiver capacity = wait receiver capacity c
-waitFrom Ended c sender receiver capacity = wait outside 0 0
+-- the wait of a process that waits so at channel c, from sender to receiver, of a capacity
+abbrev pub waitFrom : Waiting → ℕ → ℕ → ℕ → ℕ → Wait
+waitFrom Free c sender receiver capacity = wait outside 0 0
+waitFrom Empty c sender receiver capacity = wait sender 0 c
+waitFrom Full c sender receiver capacity = wait receiver capacity c
 
 -- the pointings of P processes; none leads on from what is no process
 unfoldable pub pointsIn : List ℕ → ℕ → ℕ → ℕ

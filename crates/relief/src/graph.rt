@@ -1,93 +1,114 @@
 // Who waits for whom: for each process of a sound lane the process that it points to, and its full wait.
-use crate::Foreseen;
 use crate::Wait;
+use crate::Waiting;
 use crate::Waits;
+use crate::Way;
 use lane::Lane;
-use process::Outcome;
+use process::Channel;
+use process::Condition;
 ghost use mathlib.Core.Path.{_≡_};
-ghost use mathlib.Core.Bool.{true};
-ghost use mathlib.Core.List.{[]};
+ghost use mathlib.Core.Bool.{true, not};
 ghost use Prim.Native.Nat.{ℕ, _<_};
-ghost use Rattle.lane.specs.State.{world};
+ghost use lib.ListN.{getD};
+ghost use Rattle.lane.specs.State.{isEnded};
 ghost use Rattle.lane.specs.Sound.{soundOf};
-ghost use Rattle.lane.specs.Pick.{channelIn, instructionFor, stepFor};
-ghost use Rattle.relief.specs.Waits.{pointing, fullWait, waitsAt};
-ghost use Rattle.relief.specs.Parts.{waitFrom, pointsIn, numberIn};
+ghost use Rattle.relief.specs.Waits.{waitOf, pointing, fullWait, waitsAt};
+ghost use Rattle.relief.specs.Parts.{waitingOf, waitAs, way, waitFrom, pointsIn, numberIn};
 
-// What a process waits for whose step had this outcome at channel c, with these ends and this capacity.
-fn wait_in(outcome: Outcome, c: u8, sender: u8, receiver: u8, capacity: u16) -> Wait
-    ensures { λ r. ⌜ r ≡ waitFrom outcome c sender receiver capacity ⌝ }
+// A process in this condition has not ended.
+fn live(condition: Condition) -> bool
+    ensures { λ r. ⌜ r ≡ not (isEnded condition) ⌝ }
 {
-    let free = Wait {
-        points: 255,
-        full: 0,
-        channel: 0,
-    };
-    match outcome {
-        Outcome::Moved => free,
-        Outcome::Sent(_) => free,
-        Outcome::Halted => free,
-        Outcome::WaitEmpty => Wait {
+    match condition {
+        Condition::Live => true,
+        Condition::Stopped => false,
+        Condition::Faulted => false,
+    }
+}
+
+// How a process waits, live or not, that stands at this opcode, with its channel so and that channel's receiver ended or not: a receive at
+// an empty open channel, a send at a full open one.
+fn waiting_at(op: u8, live: bool, h: Channel, gone: bool) -> Waiting
+    ensures { λ r. ⌜ r ≡ waitingOf op live h gone ⌝ }
+{
+    if !live {
+        return Waiting::Free;
+    }
+    if h.closed {
+        return Waiting::Free;
+    }
+    if op == 11 {
+        if h.held == 0 {
+            return Waiting::Empty;
+        }
+        return Waiting::Free;
+    }
+    if op == 12 {
+        if gone {
+            return Waiting::Free;
+        }
+        if h.held == h.capacity {
+            return Waiting::Full;
+        }
+    }
+    Waiting::Free
+}
+
+// What a process waits for that waits so at channel c, with these ends and this capacity.
+fn wait_in(waiting: Waiting, c: u8, sender: u8, receiver: u8, capacity: u16) -> Wait
+    ensures { λ r. ⌜ r ≡ waitFrom waiting c sender receiver capacity ⌝ }
+{
+    match waiting {
+        Waiting::Free => Wait {
+            points: 255,
+            full: 0,
+            channel: 0,
+        },
+        Waiting::Empty => Wait {
             points: sender,
             full: 0,
             channel: c,
         },
-        Outcome::WaitFull => Wait {
+        Waiting::Full => Wait {
             points: receiver,
             full: capacity,
             channel: c,
         },
-        Outcome::Ended => free,
     }
 }
 
-// What process p would do if picked, and at which channel: a pick on a copy of the lane, with cells of its own. They hold no message:
-// whether it waits does not hang on one. Public for the bench.
-pub fn foresee(lane: Lane, p: usize) -> Foreseen
-    requires { ⌜ (soundOf lane ≡ true) × (p < lane .network .processes) ⌝ }
-    ensures { λ r. ⌜ (r .outcome ≡ stepFor p (world lane []) .outcome) × (r .channel ≡ channelIn (instructionFor p lane)) ⌝ }
-{
-    let mut cells = [0i32; 8192];
-    let picks = [p as u8];
-    let ran = lane_picks::pick_all(lane, &mut cells, &picks);
-    let outcome = ran.last;
-    Foreseen {
-        outcome,
-        channel: ran.channel,
-    }
-}
-
-// What process p would wait for if picked.
-fn wait_of(lane: Lane, p: usize) -> Wait
-    requires { ⌜ (soundOf lane ≡ true) × (p < lane .network .processes) ⌝ }
-    ensures { λ r. ⌜ (r .points ≡ pointing lane p) × (r .full ≡ fullWait lane p) × (r .channel ≡ waitsAt lane p) ⌝ }
-{
-    let net = lane.network;
-    let seen = foresee(lane, p);
-    let c = seen.channel;
-    let outcome = seen.outcome;
-    let h = lane.channels[c];
-    wait_in(outcome, c as u8, net.sender[c], net.receiver[c], h.capacity)
-}
-
-// The waits of all processes. Public for the crate's root, which has shown that the lane is sound.
-pub fn all(lane: Lane) -> Waits
+// The waits of all processes, by their instructions: nothing is picked. Public for the bench; the callers have shown that the lane is sound.
+pub fn waits_of(lane: Lane) -> Waits
     requires { ⌜ soundOf lane ≡ true ⌝ }
-    ensures { λ r. ⌜ ((p : ℕ) → (pointsIn (r .points) (lane .network .processes) p ≡ pointing lane p) × (numberIn (r .full) p ≡ fullWait lane p) × (numberIn (r .channel) p ≡ waitsAt lane p)) ⌝ }
+    ensures { λ r. ⌜ ((p : ℕ) → (pointsIn (r .points) (lane .network .processes) p ≡ pointing lane p) × (numberIn (r .full) p ≡ fullWait lane p) × (numberIn (r .channel) p ≡ waitsAt lane p)) × ((p : ℕ) → p < lane .network .processes → waitAs (getD (r .ways) p (way Waiting.Free) .waiting) (waitsAt lane p) ≡ waitOf lane p) ⌝ }
 {
     let net = lane.network;
+    let mut ways = [Way {
+        waiting: Waiting::Free,
+    }; 16];
     let mut points = [0u8; 16];
     let mut full = [0u16; 16];
     let mut channel = [0u8; 16];
     let mut p = 0;
     while p < net.processes {
-        let wait = wait_of(lane, p);
+        let standing = lane.processes[p];
+        let condition = standing.condition;
+        let at = lane_picks::place(net.first[p], standing.position);
+        let i = network::fetch(&net.code, at);
+        let c = lane_picks::channel_of(i);
+        let h = lane.channels[c];
+        let e = base::wide(net.receiver[c]);
+        let gone = lane_sound::ended_if(e, lane.processes[e % 16]);
+        let waiting = waiting_at(i.op, live(condition), h, gone);
+        let wait = wait_in(waiting, c as u8, net.sender[c], net.receiver[c], h.capacity);
+        ways[p] = Way { waiting };
         points[p] = wait.points;
         full[p] = wait.full;
         channel[p] = wait.channel;
         p += 1;
     }
     Waits {
+        ways,
         points,
         full,
         channel,

@@ -3,9 +3,8 @@ mod graph;
 mod search;
 
 use base::Refusal;
-pub use graph::foresee;
+pub use graph::waits_of;
 use lane::Lane;
-use process::Outcome;
 ghost use mathlib.Core.Path.{_≡_};
 ghost use mathlib.Core.List.{_++_};
 ghost use Prim.Native.Nat.{_≤_, _<_};
@@ -24,10 +23,16 @@ pub struct Relieved {
     pub answer: ReliefAnswer,
 }
 
-// What a pick of a process would do, and at which channel.
-pub struct Foreseen {
-    pub outcome: Outcome,
-    pub channel: usize,
+// How a process would wait if picked: not at all, for a message, or for room.
+pub enum Waiting {
+    Free,
+    Empty,
+    Full,
+}
+
+// The same as an element of an array in a struct, which must be a number or a struct itself.
+pub struct Way {
+    pub waiting: Waiting,
 }
 
 // What a process waits for: the process that it points to, 255 for none; the capacity of the channel of a full wait, 0 for
@@ -38,11 +43,12 @@ struct Wait {
     channel: u8,
 }
 
-// The same of each process.
-struct Waits {
-    points: [u8; 16],
-    full: [u16; 16],
-    channel: [u8; 16],
+// The same of each process, and how it waits. Public for the bench.
+pub struct Waits {
+    pub ways: [Way; 16],
+    pub points: [u8; 16],
+    pub full: [u16; 16],
+    pub channel: [u8; 16],
 }
 
 // What the search gives: the ring in the first places, its length, 0 where none is found, and the channel; whether a ring
@@ -96,7 +102,7 @@ pub fn relieve(lane: Lane, ring: &mut [u8]) -> Relieved
         return refused(lane, Refusal::Unsound);
     }
     let net = lane.network;
-    let sought = search::search(graph::all(lane), net.processes);
+    let sought = search::search(graph::waits_of(lane), net.processes);
     let length = sought.length;
     let channel = sought.channel;
     if length == 0 {

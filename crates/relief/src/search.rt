@@ -9,13 +9,6 @@ ghost use lib.ListN.{getD};
 ghost use Rattle.relief.specs.Rings.{lesser, search};
 ghost use Rattle.relief.specs.Parts.{pointsIn, numberIn, foundOf};
 
-// A byte as a number.
-fn wide(x: u8) -> usize
-    ensures { λ r. ⌜ r ≡ x ⌝ }
-{
-    x as usize
-}
-
 // Of two full waits the first is the one to relieve: the smaller capacity, the lower number on a tie. A capacity of 0 stands for none.
 fn lesser(capacity: u16, channel: u8, other: u16, rival: u8) -> bool
     ensures { λ r. ⌜ r ≡ lesser capacity channel other rival ⌝ }
@@ -85,12 +78,12 @@ pub fn search(waits: Waits, count: usize) -> Sought
             ring[n] = at as u8;
             best = better(waits, at, best);
             n += 1;
-            let to = wide(waits.points[at]);
+            let to = base::wide(waits.points[at]);
             if to == start {
                 let capacity = waits.full[best];
                 if below(capacity, 256) {
                     length = n;
-                    channel = wide(waits.channel[best]);
+                    channel = base::wide(waits.channel[best]);
                     break 'search;
                 }
                 ceiling = either(ceiling, below(capacity, 257));

@@ -9,12 +9,6 @@ ghost use Prim.Native.Nat.{_<_};
 
 const OUT: i32 = 1;
 
-fn wide(x: u8) -> usize
-    ensures { λ r. ⌜ r < 256 ⌝ }
-{
-    x as usize
-}
-
 fn print_number(n: usize) {
     io::print_decimal(OUT, n as u64);
 }
@@ -83,10 +77,17 @@ fn print_no_room(lane: Lane) {
     io::write_all(OUT, b"\n");
 }
 
+// A byte as a number, of which is kept that it is small: so the sums below fit.
+fn small(x: u8) -> usize
+    ensures { λ r. ⌜ r < 256 ⌝ }
+{
+    x as usize
+}
+
 // The lane of a record after its picks.
 fn picked(record: [u8; 2048], lane: Lane) -> Lane {
     let start = 1090;
-    let end = start + 256 * wide(record[1088]) + wide(record[1089]);
+    let end = start + 256 * small(record[1088]) + small(record[1089]);
     let mut cells = [0i32; 8192];
     if end <= 2048 {
         let ran = schedule::run(lane, &mut cells, &record[start..end]);
@@ -97,7 +98,7 @@ fn picked(record: [u8; 2048], lane: Lane) -> Lane {
 
 fn print_record(record: [u8; 2048]) {
     let title = 1025;
-    let end = title + wide(record[1024]);
+    let end = title + small(record[1024]);
     if end <= 2048 {
         io::write_all(OUT, &record[title..end]);
     }

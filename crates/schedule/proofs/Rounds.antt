@@ -1,31 +1,30 @@
--- The rounds of a drive: a round is the picks 0 to P − 1, the rule after it says what comes next; and what the loop over the rounds keeps.
+-- The rounds of a drive: a round is the picks 0 to P − 1, rounds go on until one has no move or none is left, the rule after them says what comes
+-- next; and what the loop over them keeps.
 -- Assumes nothing.
-use mathlib.Core.Path.{_≡_, refl, sym, ap, subst, _∙_}
-use mathlib.Core.Bool.{cond}
+use mathlib.Core.Path.{_≡_, refl, sym, ap, _∙_}
+use mathlib.Core.Bool.{Bool, true, false, cond}
 use mathlib.Core.List.{List, [], _∷_}
-use Prim.Native.Nat.{ℕ, zero, suc, _+_, _-_, _*_, _/_, _≤_, _<_}
-use native.Mathlib.Nat.{mul-zero, mul-add, mul-one, sub-zero, div-eq-of-lt, div-eq-sub-div}
-use native.Mathlib.Numerals.{add-one}
+use Prim.Native.Nat.{ℕ, zero, suc, _+_, _-_, _*_, _≤_, _<_}
+use native.Mathlib.Nat.{sub-self}
 use native.Mathlib.Omega.{arith}
-use lib.IntN.{ℤ}
+use lib.Dec.{eqb}
 use lib.ListN.{length, getD, take, length-take}
 use lib.Seq.{getD-take}
 use Rattle.base.specs.Lists.{values}
 use Rattle.base.proofs.Lists.{table-at}
 use Rattle.network.specs.declared.Network.{Network}
-use Rattle.lane.specs.declared.Lane.{Lane}
 use Rattle.lane.specs.State.{World, world}
-use Rattle.lane.specs.Pick.{Progress, pickAll, unpicked}
+use Rattle.lane.specs.Pick.{Progress, pickAll, unpicked, Rounds, roundsEnd, recounted, pickRounds}
 use Rattle.schedule.specs.declared.End.{End}
 use Rattle.schedule.specs.declared.driving.Next.{Next}
 use Rattle.schedule.specs.declared.driving.Next.the-variants.{Ends, Goes}
 use Rattle.schedule.specs.declared.driving.After.{After}
 use Rattle.schedule.specs.Running.{Running, begun, picks}
 use Rattle.schedule.specs.Drive as drive
-use Rattle.schedule.specs.Drive.{turns, round, nextAfter, leftAfter, Drive, driven, rounds, drove, endOf, Result, result, done}
+use Rattle.schedule.specs.Drive.{turns, round, nextAfter, leftAfter, Drive, driven, rounds, drove, endOf, result, done}
 use Rattle.schedule.specs.Parts.{nextOf, roundOn, Ruled}
-use Rattle.schedule.proofs.Ready.{Ready, ready-all}
-use Rattle.schedule.proofs.Through.{running, through, through-is}
+use Rattle.schedule.proofs.Ready.{Ready, ready-all, ready-rounds}
+use Rattle.schedule.proofs.Through.{running, through, through-from}
 use Rattle.schedule.proofs.Rule.{left-is, ready-left}
 
 -- ---- the picks of a round
@@ -45,26 +44,34 @@ turns-through n zero p r h = refl
 turns-through zero (suc k) p r h = absurd (omega arith)
 turns-through (suc n) (suc k) p r h = turns-through n k (suc p) (picks p r) (omega arith)
 
-pub order-low : (P : ℕ) → P ≤ 16 → (k : ℕ) → k < length (take P order) → getD (take P order) k 0 < P
+order-low : (P : ℕ) → P ≤ 16 → (k : ℕ) → k < length (take P order) → getD (take P order) k 0 < P
 order-low P h k l =
     let m : k < P = omega (arith, length-take P order) in
     let e : getD (take P order) k 0 ≡ k = getD-take P order k 0 m ∙ ap (λ (l : List ℕ). getD l k 0) (sym order-is) ∙ table-at (λ (j : ℕ). j) 16 k 0 (omega arith) in
     rw e m
 
+-- the picks of a round that ended so, in the terms of a drive
+abbrev inDrive : Progress → ℕ → Running
+inDrive g grown = running (g .world) (g .moved) grown
+
 round-is :
-    (P : ℕ) (w : World) (moved grown : ℕ) → P ≡ w .lane .network .processes → P ≤ 16
-    → round (running w moved grown) ≡ running (pickAll (take P order) (unpicked w) .world) (pickAll (take P order) (unpicked w) .moved) grown
-round-is P w moved grown e h =
-    ap (λ (n : ℕ). turns 0 n (running w 0 grown)) (sym e) ∙ turns-through 16 P 0 (running w 0 grown) h
-    ∙ ap (λ (l : List ℕ). through (take P l) (running w 0 grown)) order-is
-    ∙ through-is (take P order) w 0 grown
-    ∙ ap (λ (m : ℕ). running (pickAll (take P order) (unpicked w) .world) m grown) (omega arith)
+    (P : ℕ) (g : Progress) (moved grown : ℕ) → P ≡ g .world .lane .network .processes → P ≤ 16
+    → round (running (g .world) moved grown) ≡ inDrive (pickAll (take P order) (recounted g)) grown
+round-is P g moved grown e h =
+    ap (λ (n : ℕ). turns 0 n (running (g .world) 0 grown)) (sym e) ∙ turns-through 16 P 0 (running (g .world) 0 grown) h
+    ∙ ap (λ (l : List ℕ). through (take P l) (running (g .world) 0 grown)) order-is
+    ∙ through-from (take P order) 0 grown (recounted g)
+    ∙ ap (λ (m : ℕ). running (pickAll (take P order) (recounted g) .world) m grown) (omega arith)
 
 -- ---- a round and the rule after it
 -- what follows: the drive ends, or k rounds at most come after n
 abbrev onward : drive.Next → ℕ → ℕ → Running → Drive
 onward (drive.ends e) k n r = driven e n r
 onward drive.goes k n r = rounds k n r
+
+-- the rule after rounds of which n were made and so many may follow
+abbrev ruled : Rounds → ℕ → ℕ → Drive
+ruled q grown n = onward (nextAfter (inDrive (q .progress) grown)) (q .left) n (leftAfter (inDrive (q .progress) grown))
 
 round-more : (k n : ℕ) (r : Running) → rounds (suc k) n r ≡ onward (nextAfter (round r)) k (n + 1) (leftAfter (round r))
 round-more k n r = go (nextAfter (round r)) refl
@@ -73,103 +80,109 @@ round-more k n r = go (nextAfter (round r)) refl
     go (drive.ends e) q = rw (q, rounds)
     go drive.goes q = rw (q, rounds)
 
-round-ruled :
-    (P k n : ℕ) (w : World) (moved grown : ℕ) {g : Progress} {a : After} → P ≡ w .lane .network .processes → P ≤ 16
-    → g ≡ pickAll (take P order) (unpicked w)
-    → Ruled (g .world .lane) (g .moved) a
-    → rounds (suc k) n (running w moved grown) ≡ onward (nextOf (a .next)) k (n + 1) (running (world (a .lane) (g .world .cells)) (g .moved) (grown + a .enlarged))
-round-ruled P k n w moved grown {g} {a} e h q s =
-    round-more k n (running w moved grown)
-    ∙ ap (λ (r : Running). onward (nextAfter r) k (n + 1) (leftAfter r)) (round-is P w moved grown e h ∙ ap (λ (x : Progress). running (x .world) (x .moved) grown) (sym q))
-    ∙ rw (s .next, s .lane, s .enlarged) (ap (onward (nextAfter (roundOn (g .world .lane) (g .moved))) k (n + 1)) (left-is (g .world .lane) (g .world .cells) (g .moved) grown))
+-- ---- rounds until one has no move, and the rule after the last of them. Where that one moved, no round is left, and the rule goes on to the end as spent.
+module _ (P : ℕ) (n : Network) (high : P ≤ 16) (same : P ≡ n .processes) where
+  pub round-low : (k : ℕ) → k < length (take P order) → getD (take P order) k 0 < n .processes
+  round-low k l = rw (← same) (order-low P high k l)
+
+  -- one round, of which k may follow
+  one-round :
+      (k made : ℕ) (g : Progress) (moved grown : ℕ) → Ready n (g .world)
+      → rounds (suc k) made (running (g .world) moved grown) ≡ ruled (roundsEnd (pickAll (take P order) (recounted g)) k) grown (made + 1)
+  one-round k made g moved grown s =
+      round-more k made (running (g .world) moved grown)
+      ∙ ap (λ (r : Running). onward (nextAfter r) k (made + 1) (leftAfter r))
+      (round-is P g moved grown (same ∙ ap (λ (m : Network). m .processes) (sym (s .same))) high)
+
+  -- suc j rounds at most are j at most after a first one
+  rounds-are :
+      (j made : ℕ) (g : Progress) (moved grown : ℕ) → Ready n (g .world)
+      → rounds (suc j) made (running (g .world) moved grown)
+      ≡ ruled (pickRounds j (take P order) (recounted g)) grown (made + (suc j - pickRounds j (take P order) (recounted g) .left))
+  rounds-are zero made g moved grown s = one-round 0 made g moved grown s
+  rounds-are (suc j) made g moved grown s =
+      by (eqb (x .moved) 0) _ refl (rounds-are j (made + 1) x (x .moved) grown t) (ready-rounds n j (take P order) (recounted x) round-low t .1)
+    where
+      x : Progress
+      x = pickAll (take P order) (recounted g)
+
+      t : Ready n (x .world)
+      t = ready-all n (take P order) (recounted g) round-low s
+
+      by : (b : Bool) (q : Rounds) → eqb (x .moved) 0 ≡ b
+          → rounds (suc j) (made + 1) (inDrive x grown) ≡ ruled q grown (made + 1 + (suc j - q .left))
+          → q .left ≤ j
+          → rounds (suc (suc j)) made (running (g .world) moved grown)
+          ≡ ruled (cond b (roundsEnd x (suc j)) q) grown (made + (suc (suc j) - cond b (roundsEnd x (suc j)) q .left))
+      by true q b e l = one-round (suc j) made g moved grown s ∙ ap (ruled (roundsEnd x (suc j)) grown) (omega arith)
+      by false q b e l = one-round (suc j) made g moved grown s ∙ rw b (e ∙ ap (ruled q grown) (omega arith))
+
+-- ---- what the loop keeps: the rounds made so far have led to the lane and cells w, those that are left lead on to the end
+pub record Going (P most : ℕ) (n : Network) (w₀ : World) (w : World) (left grown : ℕ) : Type 0 where
+  pub high : P ≤ 16
+  pub same : P ≡ n .processes
+  pub long₀ : length (w₀ .cells) ≡ 8192
+  pub ready : Ready n w
+  pub within : left ≤ most
+  pub few : grown ≤ most - left
+  pub rest : done P (rounds left (most - left) (running w 0 grown)) ≡ done P (rounds most 0 (begun w₀))
+
+pub going-first : (P most : ℕ) (n : Network) (w : World) → P ≤ 16 → P ≡ n .processes → Ready n w → Going P most n w w most 0
+going-first P most n w high same ready =
+    record { high = high; same = same; long₀ = ready .long; ready = ready; within = omega arith; few = omega arith; rest = rw sub-self }
 
 -- the moves of the last round are not asked
 moves-over : (P k n : ℕ) (w : World) (moved grown : ℕ) → done P (rounds k n (running w moved grown)) ≡ done P (rounds k n (running w 0 grown))
 moves-over P zero n w moved grown = refl
 moves-over P (suc k) n w moved grown = refl
 
--- ---- how many rounds the picks that are left hold
-module _ (P budget made : ℕ) (some : 1 ≤ P) where
-  round-held : P ≤ budget - made → (budget - made) / P ≡ suc ((budget - (made + P)) / P)
-  round-held h =
-      let q : budget - made - P ≡ budget - (made + P) = omega arith in
-      div-eq-sub-div (omega arith) h ∙ ap (λ (n : ℕ). n / P + 1) q ∙ add-one _
+module _ {P most : ℕ} {n : Network} {w₀ : World} {w : World} {left grown : ℕ} (s : Going P most n w₀ w left grown) where
+  module _ (h : 0 < left) {q : Rounds} {a : After} (e : q ≡ pickRounds (left - 1) (take P order) (unpicked w)) (r : Ruled (q .progress .world .lane) (q .progress .moved) a) where
+    after-picks : Ready n (q .progress .world) × (q .left ≤ left - 1)
+    after-picks = rw e (ready-rounds n (left - 1) (take P order) (unpicked w) (round-low P n (s .high) (s .same)) (s .ready))
 
-  none-held : budget - made < P → (budget - made) / P ≡ 0
-  none-held h = div-eq-of-lt h
+    pub fewer-left : q .left < left
+    fewer-left = omega (arith, after-picks .1)
 
--- ---- what the loop over the rounds keeps: the rounds made so far have led to the lane and cells w, the others lead on to the end
-pub record Going (P budget : ℕ) (n : Network) (w₀ : World) (w : World) (made grown : ℕ) : Type 0 where
-  pub some : 1 ≤ P
-  pub high : P ≤ 16
-  pub same : P ≡ n .processes
-  pub long₀ : length (w₀ .cells) ≡ 8192
-  pub ready : Ready n w
-  pub within : made ≤ budget
-  pub few : grown ≤ made
-  pub count : ℕ
-  pub picks : made ≡ P * count
-  pub rest : done P (rounds ((budget - made) / P) count (running w 0 grown)) ≡ done P (rounds (budget / P) 0 (begun w₀))
+    -- the rule after the rounds
+    rule-is : ruled q grown (most - q .left) ≡ onward (nextOf (a .next)) (q .left) (most - q .left) (running (world (a .lane) (q .progress .world .cells)) (q .progress .moved) (grown + a .enlarged))
+    rule-is =
+        rw (r .next, r .lane, r .enlarged)
+        (ap (onward (nextAfter (roundOn (q .progress .world .lane) (q .progress .moved))) (q .left) (most - q .left)) (left-is (q .progress .world .lane) (q .progress .world .cells) (q .progress .moved) grown))
 
-pub going-first :
-    (P budget : ℕ) (n : Network) (w : World) → 1 ≤ P → P ≤ 16 → P ≡ n .processes → Ready n w → Going P budget n w w 0 0
-going-first P budget n w some high same ready =
-    record {
-      some = some;
-      high = high;
-      same = same;
-      long₀ = ready .long;
-      ready = ready;
-      within = omega arith;
-      few = omega arith;
-      count = 0;
-      picks = sym (mul-zero P);
-      rest = rw sub-zero;
-    }
+    rounds-ruled : rounds left (most - left) (running w 0 grown) ≡ ruled q grown (most - q .left)
+    rounds-ruled =
+        let k : left ≡ suc (left - 1) = omega arith in
+        let m : most - left + (suc (left - 1) - q .left) ≡ most - q .left = omega (arith, fewer-left, s .within) in
+        ap (λ (i : ℕ). rounds i (most - left) (running w 0 grown)) k
+        ∙ rounds-are P n (s .high) (s .same) (left - 1) (most - left) (unpicked w) 0 grown (s .ready)
+        ∙ rw (← e) (ap (ruled q grown) m)
 
-module _ {P budget : ℕ} {n : Network} {w₀ : World} {w : World} {made grown : ℕ} (s : Going P budget n w₀ w made grown) where
-  one-more : P * (s .count + 1) ≡ made + P
-  one-more = mul-add P (s .count) 1 ∙ rw (mul-one, ← s .picks)
+    after-rounds : done P (onward (nextOf (a .next)) (q .left) (most - q .left) (running (world (a .lane) (q .progress .world .cells)) (q .progress .moved) (grown + a .enlarged)))
+        ≡ done P (rounds most 0 (begun w₀))
+    after-rounds = ap (done P) (sym (rounds-ruled ∙ rule-is)) ∙ s .rest
 
-  module _ (h : P ≤ budget - made) {g : Progress} {a : After} (q : g ≡ pickAll (take P order) (unpicked w)) (r : Ruled (g .world .lane) (g .moved) a) where
-    -- a round more
-    after-round : done P (onward (nextOf (a .next)) ((budget - (made + P)) / P) (s .count + 1) (running (world (a .lane) (g .world .cells)) (g .moved) (grown + a .enlarged)))
-        ≡ done P (rounds (budget / P) 0 (begun w₀))
-    after-round =
-        ap (done P)
-        (sym (round-ruled P ((budget - (made + P)) / P) (s .count) w 0 grown (s .same ∙ ap (λ (m : Network). m .processes) (sym (s .ready .same))) (s .high) q r))
-        ∙ ap (λ (k : ℕ). done P (rounds k (s .count) (running w 0 grown))) (sym (round-held P budget made (s .some) h))
-        ∙ s .rest
-
-    pub round-ready : Ready n (world (a .lane) (g .world .cells))
-    round-ready =
-        rw (r .lane)
-        (ready-left n (g .world .lane) (g .world .cells) (g .moved)
-        (rw q (ready-all n (take P order) (unpicked w) (λ k l. rw (← s .same) (order-low P (s .high) k l)) (s .ready))))
+    pub rounds-ready : Ready n (world (a .lane) (q .progress .world .cells))
+    rounds-ready = rw (r .lane) (ready-left n (q .progress .world .lane) (q .progress .world .cells) (q .progress .moved) (after-picks .0))
 
     -- the drive ends
-    pub round-ends : {end : End} → a .next ≡ Ends end
-        → result (drove (endOf end) (made + P) (grown + a .enlarged)) (world (a .lane) (g .world .cells)) ≡ done P (rounds (budget / P) 0 (begun w₀))
-    round-ends e = rw (← one-more) (rw e at after-round)
+    pub rounds-end : {end : End} → a .next ≡ Ends end
+        → result (drove (endOf end) (P * (most - q .left)) (grown + a .enlarged)) (world (a .lane) (q .progress .world .cells)) ≡ done P (rounds most 0 (begun w₀))
+    rounds-end x = rw x at after-rounds
 
     -- it goes on
-    pub round-goes : a .next ≡ Goes → Going P budget n w₀ (world (a .lane) (g .world .cells)) (made + P) (grown + a .enlarged)
-    round-goes e =
+    pub rounds-go : a .next ≡ Goes → Going P most n w₀ (world (a .lane) (q .progress .world .cells)) (q .left) (grown + a .enlarged)
+    rounds-go x =
         record {
-          some = s .some;
           high = s .high;
           same = s .same;
           long₀ = s .long₀;
-          ready = round-ready;
-          within = omega (arith, s .some);
-          few = omega (arith, r .few, s .some, s .few);
-          count = s .count + 1;
-          picks = sym one-more;
-          rest = sym (moves-over P ((budget - (made + P)) / P) (s .count + 1) (world (a .lane) (g .world .cells)) (g .moved) (grown + a .enlarged)) ∙ (rw e at after-round);
+          ready = rounds-ready;
+          within = omega (arith, fewer-left, s .within);
+          few = omega (arith, r .few, s .few, fewer-left, s .within);
+          rest = sym (moves-over P (q .left) (most - q .left) (world (a .lane) (q .progress .world .cells)) (q .progress .moved) (grown + a .enlarged)) ∙ (rw x at after-rounds);
         }
 
-  -- fewer than P are left
-  pub rounds-spent : budget - made < P → result (drove drive.spent made grown) w ≡ done P (rounds (budget / P) 0 (begun w₀))
-  rounds-spent h =
-      ap (λ (k : ℕ). result (drove drive.spent k grown) w) (s .picks)
-      ∙ ap (λ (k : ℕ). done P (rounds k (s .count) (running w 0 grown))) (sym (none-held P budget made (s .some) h)) ∙ s .rest
+  -- no round is left
+  pub rounds-spent : left ≡ 0 → result (drove drive.spent (P * (most - left)) grown) w ≡ done P (rounds most 0 (begun w₀))
+  rounds-spent z = ap (λ (k : ℕ). done P (rounds k (most - left) (running w 0 grown))) (sym z) ∙ s .rest

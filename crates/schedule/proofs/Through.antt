@@ -22,7 +22,7 @@ counted-on : (b : Bool) (a m : ℕ) → cond b (a + m + 1) (a + m) ≡ a + cond 
 counted-on true a m = omega arith
 counted-on false a m = refl
 
-through-from :
+pub through-from :
     (ps : List ℕ) (a grown : ℕ) (g : Progress) → through ps (running (g .world) (a + g .moved) grown) ≡ running (pickAll ps g .world) (a + pickAll ps g .moved) grown
 unfolding picks pickNext
 through-from [] a grown g = refl

@@ -38,9 +38,13 @@ pub record Result : Type 0 where
 abbrev pub result : Told → World → Result
 result a w = record { answer = a; world = w }
 
--- a byte names a process of the lane, or is 255
+-- a byte names one of so many processes, or is 255
+abbrev pub names : ℕ → ℕ → Bool
+names b processes = ltb b processes || eqb b 255
+
+-- of some bytes, that at k
 abbrev pub named : List ℕ → ℕ → ℕ → Bool
-named bytes processes k = ltb (getD bytes k 0) processes || eqb (getD bytes k 0) 255
+named bytes processes k = names (getD bytes k 0) processes
 
 abbrev pub someUnnamed : List ℕ → World → Bool
 someUnnamed bytes w = not (isGood (firstBad (named bytes (w .lane .network .processes)) 0 (length bytes)))

@@ -7,7 +7,7 @@ use lane::Lane;
 use relief::ReliefAnswer;
 ghost use mathlib.Core.Path.{_≡_};
 ghost use mathlib.Core.Bool.{false};
-ghost use Prim.Native.Nat.{_/_};
+ghost use Prim.Native.Nat.{_*_, _≤_};
 ghost use Rattle.base.specs.Refusals.{numberOf};
 ghost use Rattle.lane.specs.State.{world};
 ghost use Rattle.lane.specs.Calls.{cellsWrong, unsound};
@@ -93,28 +93,28 @@ fn refused(lane: Lane, refusal: Refusal) -> DriveResult
     }
 }
 
-// Rounds while at least as many picks are left as there are processes.
-fn rounds(lane: Lane, cells: &mut [i32], processes: usize, budget: u64) -> DriveResult
-    requires { ⌜ (cellsWrong (world lane (now cells)) ≡ false) × (unsound (world lane (now cells)) ≡ false) × (processes ≡ lane .network .processes) ⌝ }
-    ensures { λ r. ⌜ result (told (r .answer)) (world (r .lane) (now (cells .exit))) ≡ done processes (rounds (budget / processes) 0 (begun (world lane (now (cells .entry))))) ⌝ }
+// So many rounds at most: rounds until one has no move, then a relief, and again.
+fn rounds(lane: Lane, cells: &mut [i32], processes: usize, most: u64) -> DriveResult
+    requires { ⌜ (cellsWrong (world lane (now cells)) ≡ false) × (unsound (world lane (now cells)) ≡ false) × (processes ≡ lane .network .processes) × (processes * most ≤ 18446744073709551615) ⌝ }
+    ensures { λ r. ⌜ result (told (r .answer)) (world (r .lane) (now (cells .exit))) ≡ done processes (rounds most 0 (begun (world lane (now (cells .entry))))) ⌝ }
 {
     let order = [0u8, 1, 2, 3, 4, 5, 6, 7, 8, 9, 10, 11, 12, 13, 14, 15];
     let round = processes as u64;
     let mut l = lane;
-    let mut picks: u64 = 0;
+    let mut left = most;
     let mut enlarged: u64 = 0;
-    while round <= budget - picks {
-        let ran = lane_picks::pick_all(l, cells, &order[..processes]);
-        picks += round;
+    while left > 0 {
+        let ran = lane_picks::pick_rounds(l, cells, &order[..processes], left - 1);
+        left = ran.left;
         let after = next_after(ran.lane, ran.moved);
         l = after.lane;
         enlarged += after.enlarged;
         let next = after.next;
         if let Next::Ends(end) = next {
-            return driven(l, end, picks, enlarged);
+            return driven(l, end, round * (most - left), enlarged);
         }
     }
-    driven(l, End::Spent, picks, enlarged)
+    driven(l, End::Spent, round * (most - left), enlarged)
 }
 
 // Rounds of picks with a number of picks, and a relief after each round without a move, until the lane settles, its rings
@@ -129,5 +129,5 @@ pub fn drive(lane: Lane, cells: &mut [i32], budget: u64) -> DriveResult
         return refused(lane, Refusal::Unsound);
     }
     let net = lane.network;
-    rounds(lane, cells, net.processes, budget)
+    rounds(lane, cells, net.processes, budget / (net.processes as u64))
 }

@@ -15,20 +15,14 @@ ghost use Rattle.lane.specs.State.{world};
 ghost use Rattle.lane.specs.Calls.{cellsWrong, unsound};
 ghost use Rattle.relief.specs.Relief as relief;
 ghost use Rattle.schedule.specs.Running.{begun, hasGrown};
-ghost use Rattle.schedule.specs.Run.{bytesRun, told, result, named, someUnnamed, done, runOf};
+ghost use Rattle.schedule.specs.Run.{bytesRun, told, result, names, named, someUnnamed, done, runOf};
 ghost use Rattle.schedule.specs.Parts.{Stretch};
-
-fn wide(byte: u8) -> usize
-    ensures { λ r. ⌜ r ≡ byte ⌝ }
-{
-    byte as usize
-}
 
 // A byte names a process, or is 255.
 fn names(byte: u8, processes: usize) -> bool
-    ensures { λ r. ⌜ r ≡ (ltb byte processes || eqb byte 255) ⌝ }
+    ensures { λ r. ⌜ r ≡ names byte processes ⌝ }
 {
-    wide(byte) < processes || byte == 255
+    base::wide(byte) < processes || byte == 255
 }
 
 // The first byte that names no process. Public for the bench, which makes the same test.

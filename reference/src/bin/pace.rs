@@ -1,29 +1,34 @@
-//! The long drive, for counts of instructions.
+//! Many picks, for counts of instructions.
 //!
-//! pace FOLDER [LAPS]
+//! pace FOLDER run|drive LAPS
 //!
 //! For each of ring.bin, pipeline.bin and arithmetic.bin: a fresh lane, and so
-//! many laps (814 if none are named) of 4,096 picks, each lap in turn from
-//! process 0. Prints the moves of all processes together.
+//! many laps of 4,096 picks, each lap in turn from process 0, as a run over
+//! these picks or as a drive with this number. Prints the moves of all
+//! processes together.
 
 use reference::file;
 use reference::lane::{Lane, CELLS};
-use reference::schedule::run;
+use reference::schedule::{drive, run};
 use std::process::ExitCode;
 
-const LAPS: usize = 814;
 const PICKS: usize = 4_096;
 
 fn main() -> ExitCode {
-    let mut arguments = std::env::args().skip(1);
-    let folder = arguments.next();
-    let laps = arguments.next().map_or(Some(LAPS), |text| text.parse().ok());
-    let (Some(folder), Some(laps)) = (folder, laps) else {
-        eprintln!("pace FOLDER [LAPS]");
-        return ExitCode::from(2);
+    let arguments: Vec<String> = std::env::args().skip(1).collect();
+    let [folder, how, laps] = arguments.as_slice() else {
+        return usage();
+    };
+    let Ok(laps) = laps.parse() else {
+        return usage();
+    };
+    let drives = match how.as_str() {
+        "run" => false,
+        "drive" => true,
+        _ => return usage(),
     };
     for name in ["ring", "pipeline", "arithmetic"] {
-        match moves(&format!("{folder}/{name}.bin"), laps) {
+        match moves(&format!("{folder}/{name}.bin"), drives, laps) {
             Ok(moves) => println!("{name}: {moves} moves"),
             Err(reason) => {
                 eprintln!("{name}.bin: {reason}");
@@ -34,14 +39,26 @@ fn main() -> ExitCode {
     ExitCode::SUCCESS
 }
 
-fn moves(path: &str, laps: usize) -> Result<u64, String> {
+fn usage() -> ExitCode {
+    eprintln!("pace FOLDER run|drive LAPS");
+    ExitCode::from(2)
+}
+
+fn moves(path: &str, drives: bool, laps: usize) -> Result<u64, String> {
     let bytes = std::fs::read(path).map_err(|error| error.to_string())?;
     let network = file::read(&bytes).map_err(|misfit| format!("{misfit:?}"))?;
     let picks: Vec<u8> = (0..network.processes).cycle().take(PICKS).collect();
     let mut lane = Lane::fresh(network);
     let mut cells = vec![0; CELLS];
     for _ in 0..laps {
-        run(&mut lane, &mut cells, &picks).map_err(|refusal| format!("{refusal:?}"))?;
+        let refused = if drives {
+            drive(&mut lane, &mut cells, PICKS as u64).err()
+        } else {
+            run(&mut lane, &mut cells, &picks).err()
+        };
+        if let Some(refusal) = refused {
+            return Err(format!("{refusal:?}"));
+        }
     }
     Ok(lane.processes.iter().map(|process| process.moves).sum())
 }

@@ -40,11 +40,11 @@ mul-h c = omega (arith, index (c .before .before))
 element-copy-out-h : tie.Need-element-copy-out-h Inv-loop μ-loop
 element-copy-out-h c = omega (arith, index (c .before .before))
 
-element-copy-out-end : tie.Need-element-copy-out-end Inv-loop μ-loop
-element-copy-out-end c = omega (arith, index (c .before .before .before))
+element-copy-out-wide : tie.Need-element-copy-out-wide Inv-loop μ-loop
+element-copy-out-wide c = omega (arith, index (c .before .before .before))
 
-end-requires : tie.Need-end-requires Inv-loop μ-loop
-end-requires c κs = search needs
+wide-requires : tie.Need-wide-requires Inv-loop μ-loop
+wide-requires c κs = search needs
 
 mul-ended-if : tie.Need-mul-ended-if Inv-loop μ-loop
 mul-ended-if c = search needs
@@ -106,8 +106,8 @@ gone-is c =
     let o = c .before .before .before .before .before .before .before in
     let k = o .before .loop .inv .kept in
     c .ended-if .ensures
-    ∙ ended-at (o .before .loop .l .processes) (k .shaped (shaped (o .before .before .before .before)) .processes) (c .before .before .end .result)
-    ∙ ap (endedAt (o .before .loop .l)) (c .before .before .end .ensures ∙ ap (λ (n : Network). receiverOf n (o .before .loop .c)) (sym (k .network)))
+    ∙ ended-at (o .before .loop .l .processes) (k .shaped (shaped (o .before .before .before .before)) .processes) (c .before .before .wide .result)
+    ∙ ap (endedAt (o .before .loop .l)) (c .before .before .wide .ensures ∙ ap (λ (n : Network). receiverOf n (o .before .loop .c)) (sym (k .network)))
 
 -- so is the test
 idle-is : (c : tie.After-idle Inv-loop μ-loop)
@@ -125,7 +125,7 @@ loop-again c =
     (⊎-elim
     (λ w.
     let i : tie.After-idle Inv-loop μ-loop =
-    record { before = record { before = record { before = record { before = record { before = record { before = record { before = c .before; if1 = w .0 }; h = w .1 }; end-arg = w .2 }; end = w .3 }; ended-if-arg = w .4 }; ended-if = w .5 }; idle = w .6 } in
+    record { before = record { before = record { before = record { before = record { before = record { before = record { before = c .before; if1 = w .0 }; h = w .1 }; wide-arg = w .2 }; wide = w .3 }; ended-if-arg = w .4 }; ended-if = w .5 }; idle = w .6 } in
     rw (w .8, w .9, w .10) (idle-passed (o .before .loop .inv) (s .pre .0) (o .loop-test .taken) (w .0 .taken) (sym (idle-is i) ∙ not-false _ (w .7 .left))))
     (λ w. rw (w .1, w .2, w .3) (inside-passed (o .before .loop .inv) (s .pre .0) (o .loop-test .taken) (w .0 .left))))
     (c .if1 .came)
@@ -146,8 +146,8 @@ feed-all-spec =
     element-copy-out-if1
     mul-h
     element-copy-out-h
-    element-copy-out-end
-    end-requires
+    element-copy-out-wide
+    wide-requires
     mul-ended-if
     element-copy-out-ended-if
     ended-if-requires

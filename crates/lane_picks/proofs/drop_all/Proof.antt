@@ -22,17 +22,17 @@ abbrev μ-loop : tie.MeasureT-loop
 loop-holds : tie.Need-loop-holds Inv-loop μ-loop
 loop-holds c = (search needs, refl)
 
-element-copy-out-end : tie.Need-element-copy-out-end Inv-loop μ-loop
-element-copy-out-end c = search needs
+element-copy-out-wide : tie.Need-element-copy-out-wide Inv-loop μ-loop
+element-copy-out-wide c = search needs
 
-end-requires : tie.Need-end-requires Inv-loop μ-loop
-end-requires c κs = search needs
+wide-requires : tie.Need-wide-requires Inv-loop μ-loop
+wide-requires c κs = search needs
 
-element-copy-out-end-2 : tie.Need-element-copy-out-end-2 Inv-loop μ-loop
-element-copy-out-end-2 c = search needs
+element-copy-out-wide-2 : tie.Need-element-copy-out-wide-2 Inv-loop μ-loop
+element-copy-out-wide-2 c = search needs
 
-end-requires-2 : tie.Need-end-requires-2 Inv-loop μ-loop
-end-requires-2 c κs = search needs
+wide-requires-2 : tie.Need-wide-requires-2 Inv-loop μ-loop
+wide-requires-2 c κs = search needs
 
 mul-drop-one : tie.Need-mul-drop-one Inv-loop μ-loop
 mul-drop-one c = search needs
@@ -61,7 +61,7 @@ loop-again c = (
   let l = c .before .before .before .before .before .before .before .loop in
       let a = c .before .before .before .before .before .before .before .before .args in
       drop-more (ends (a .sender .now) (a .receiver .now) (a .count)) (a .p) (l .c) (l .hs) _ (search needs)
-      (rw (c .drop-one .ensures, c .before .before .end2 .ensures, c .before .before .before .before .end .ensures, lt-ltb (l .c) (a .count) (search needs)))
+      (rw (c .drop-one .ensures, c .before .before .wide2 .ensures, c .before .before .before .before .wide .ensures, lt-ltb (l .c) (a .count) (search needs)))
       ∙ l .inv .1,
 )
 
@@ -78,10 +78,10 @@ drop-all-spec =
     Inv-loop
     μ-loop
     loop-holds
-    element-copy-out-end
-    end-requires
-    element-copy-out-end-2
-    end-requires-2
+    element-copy-out-wide
+    wide-requires
+    element-copy-out-wide-2
+    wide-requires-2
     mul-drop-one
     array-copy-out-drop-one
     drop-one-requires

@@ -42,14 +42,23 @@ branches-requires c κs = search needs
 branches-requires-2 : tie.Need-branches-requires-2
 branches-requires-2 c κs = search needs
 
+at-end-requires : tie.Need-at-end-requires
+at-end-requires c κs = search needs
+
 cast-all-2 : tie.Need-cast-all-2
 cast-all-2 c = search needs
 
 all-requires-4 : tie.Need-all-requires-4
 all-requires-4 c κs = search needs
 
+at-end-requires-2 : tie.Need-at-end-requires-2
+at-end-requires-2 c κs = search needs
+
 all-requires-5 : tie.Need-all-requires-5
 all-requires-5 c κs = search needs
+
+at-end-requires-3 : tie.Need-at-end-requires-3
+at-end-requires-3 c κs = search needs
 
 all-requires-6 : tie.Need-all-requires-6
 all-requires-6 c κs = search needs
@@ -100,15 +109,15 @@ returns-11 c = rw (c .branches2 .ensures, c .before .match .keys11)
 
 returns-12 : tie.Need-returns-12
 unfolding fieldsRight
-returns-12 c = rw (c .all4 .ensures, c .before .before .before .match .keys12)
+returns-12 c = rw (c .all4 .ensures, c .before .before .at-end .ensures, c .before .before .before .before .match .keys12)
 
 returns-13 : tie.Need-returns-13
 unfolding fieldsRight
-returns-13 c = rw (c .all5 .ensures, c .before .before .before .match .keys13)
+returns-13 c = rw (c .all5 .ensures, c .before .before .at-end2 .ensures, c .before .before .before .before .match .keys13)
 
 returns-14 : tie.Need-returns-14
 unfolding fieldsRight
-returns-14 c = rw (c .all6 .ensures, c .before .before .before .match .keys14)
+returns-14 c = rw (c .all6 .ensures, c .before .before .at-end3 .ensures, c .before .before .before .before .match .keys14)
 
 -- n is none of the first k numbers
 abbrev None : ℕ → ℕ → Type 0
@@ -138,9 +147,12 @@ fields-right-spec =
     all-requires-3
     branches-requires
     branches-requires-2
+    at-end-requires
     cast-all-2
     all-requires-4
+    at-end-requires-2
     all-requires-5
+    at-end-requires-3
     all-requires-6
     returns
     returns-2

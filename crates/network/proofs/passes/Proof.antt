@@ -7,7 +7,7 @@ use borrow.Author.Tests.{ltb-true, ltb-false, not-true, not-false}
 use native.Mathlib.Omega.{arith}
 use Rattle.base.specs.declared.Verdict.the-variants.{Good}
 use Rattle.network.specs.Rules.{slots, total}
-use Rattle.network.proofs.Conjunction.{bad-not-good}
+use Rattle.base.proofs.Conjunction.{bad-not-good}
 use Rattle.network.proofs.Passed.{passed-back, refused, unused-good, good-unused, total-positive}
 use Prim.Native.Nat.{_≤_}
 use Rattle.network.specs.declared.Network.{Network}

@@ -2,8 +2,6 @@
 -- Assumes nothing.
 use mathlib.Core.Path.{_≡_, sym, ap, _∙_}
 use Prim.Native.Nat.{ℕ, _-_, _*_}
-use lib.ListN.{length}
-use native.Mathlib.Omega.{arith}
 use Rattle.base.specs.declared.Verdict.the-variants.{Good}
 use Rattle.base.specs.Tests.{firstBad, isZero}
 use Rattle.network.specs.Rules.{unusedSlots, unusedRecords, unusedCode}
@@ -33,10 +31,10 @@ enum-told-4 : tie.Need-enum-told-4
 enum-told-4 c = search needs
 
 -- slots are zero where control goes on, and records where it goes on from there
-slots-zero : (c : tie.After-enum-told) → unusedSlots (c .before .before .before .args .net) ≡ Good
+slots-zero : (c : tie.After-enum-told) → unusedSlots (c .before .before .before .args .t1) ≡ Good
 slots-zero c = sym (c .before .before .unused-slots .ensures) ∙ c .enum-told .given .1
 
-records-zero : (c : tie.After-enum-told3) → unusedRecords (c .before .before .before .before .before .before .args .net) ≡ Good
+records-zero : (c : tie.After-enum-told3) → unusedRecords (c .before .before .before .before .before .before .args .t1) ≡ Good
 records-zero c = sym (c .before .before .unused-records .ensures) ∙ c .enum-told3 .given .1
 
 returns-2 : tie.Need-returns-2
@@ -48,14 +46,8 @@ total-requires c κs = search needs
 mul-from : tie.Need-mul-from
 mul-from c = search needs
 
-slice-aggregate-zeros : tie.Need-slice-aggregate-zeros
-slice-aggregate-zeros c = search needs
-
 zeros-requires : tie.Need-zeros-requires
-zeros-requires c κs =
-    let n = c .before .before .before .before .before .before .before .before .before .args .net in
-    let h : length (n .code) ≡ 4064 = search needs in
-    omega arith
+zeros-requires c κs = search needs
 
 enum-told-5 : tie.Need-enum-told-5
 enum-told-5 c = search needs
@@ -64,22 +56,22 @@ enum-told-6 : tie.Need-enum-told-6
 enum-told-6 c = search needs
 
 -- the call's answer is that of the unused code
-told : (c : tie.After-zeros) → c .zeros .result ≡ unusedCode (c .before .before .before .before .before .before .before .before .before .before .args .net)
+told : (c : tie.After-zeros) → c .zeros .result ≡ unusedCode (c .before .before .before .before .before .before .before .before .before .before .before .args .t1)
 unfolding unusedCode
 told c =
-    let n = c .before .before .before .before .before .before .before .before .before .before .args .net in
-    c .zeros .ensures ∙ ap (λ (t : ℕ). firstBad (isZero (n .code)) (4 * t) (4064 - 4 * t)) (c .before .before .before .total .ensures)
+    let n = c .before .before .before .before .before .before .before .before .before .before .before .args .t1 in
+    c .zeros .ensures ∙ ap (λ (t : ℕ). firstBad (isZero (n .code)) (4 * t) (4064 - 4 * t)) (c .before .before .before .before .total .ensures)
 
 returns-3 : tie.Need-returns-3
 returns-3 c =
     let z = c .before .before in
-    let r = z .before .before .before .before in
+    let r = z .before .before .before .before .before in
     rw (slots-zero (r .before .before .before), records-zero r, sym (told z) ∙ c .enum-told6 .given .1)
 
 returns-4 : tie.Need-returns-4
 returns-4 c =
     let z = c .before .before in
-    let r = z .before .before .before .before in
+    let r = z .before .before .before .before .before in
     rw (slots-zero (r .before .before .before), records-zero r, sym (told z) ∙ c .enum-told5 .given .1)
 
 pub unused-zero-spec : {M : Type 1} → statement M
@@ -96,7 +88,6 @@ unused-zero-spec =
     returns-2
     total-requires
     mul-from
-    slice-aggregate-zeros
     zeros-requires
     enum-told-5
     enum-told-6

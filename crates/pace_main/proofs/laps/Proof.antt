@@ -8,10 +8,10 @@ use Rattle.pace_main.proofs.laps.Statement.{statement}
 use Rattle.pace_main.proofs.laps.Tie as tie
 
 abbrev Inv-loop : tie.InvT-loop
-Inv-loop cells₀ picks l₀ k₀ cells l k = (k ≤ 814) × (length cells ≡ length cells₀)
+Inv-loop cells₀ picks drives l₀ k₀ cells l k = (k ≤ 407) × (length cells ≡ length cells₀)
 
 abbrev μ-loop : tie.MeasureT-loop
-μ-loop cells₀ picks l₀ k₀ cells l k = 814 - k
+μ-loop cells₀ picks drives l₀ k₀ cells l k = 407 - k
 
 loop-holds : tie.Need-loop-holds Inv-loop μ-loop
 loop-holds c = search needs

@@ -12,7 +12,7 @@ use Rattle.lane.proofs.SoundLaws.{sound-says}
 use Rattle.relief.specs.Rings.{found}
 use Rattle.relief.specs.Relief.{foundIn, relieveOf}
 use Rattle.relief.specs.Parts.{foundOf}
-use Rattle.relief.proofs.Waiting.{found-same}
+use Rattle.relief.proofs.WaitLaws.{found-same}
 use Rattle.relief.proofs.Enlarged.{Enlargeable, found-enlargeable}
 use borrow.Author.Needs.{needs}
 use Rattle.relief.proofs.relieve.Statement.{statement}
@@ -25,8 +25,8 @@ is-sound c = sym (c .before .sound .ensures) ∙ not-false _ (c .if1 .left)
 -- what the search found
 sought : (c : tie.After-search) → foundIn (c .before .before .before .before .before .before .args .lane) ≡ foundOf (c .search .result)
 sought c =
-    let w = c .before .all .result in
-    sym (found-same _ (w .points) (w .full) (w .channel) (c .before .all .ensures)) ∙ sym (c .search .ensures .0)
+    let w = c .before .waits-of .result in
+    sym (found-same _ (w .points) (w .full) (w .channel) (c .before .waits-of .ensures .0)) ∙ sym (c .search .ensures .0)
 
 -- a ring, and a channel that can grow
 ring-found : (c : tie.Else2) → foundIn (c .before .before .before .before .before .before .before .args .lane) ≡ found (take (c .before .search .result .length) (c .before .search .result .ring)) (c .before .search .result .channel)
@@ -49,8 +49,8 @@ returns : tie.Need-returns
 unfolding relieveOf
 returns c = rw (c .refused .ensures, sym (c .before .before .sound .ensures) ∙ not-true _ (c .before .if1 .taken))
 
-all-requires : tie.Need-all-requires
-all-requires c κs = is-sound (c .before)
+waits-of-requires : tie.Need-waits-of-requires
+waits-of-requires c κs = is-sound (c .before)
 
 search-requires : tie.Need-search-requires
 search-requires c κs = passed _ (sound-says _ (is-sound (c .before .before)) .passed) .processes-high
@@ -107,7 +107,7 @@ relieve-spec =
     sound-requires
     refused-requires
     returns
-    all-requires
+    waits-of-requires
     search-requires
     refused-requires-2
     returns-2

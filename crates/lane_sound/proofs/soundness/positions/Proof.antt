@@ -1,30 +1,42 @@
 -- `lane_sound::soundness::positions` meets its contract. The loop's invariant: the positions that are left give the answer of all of them.
 -- Assumes nothing.
 use mathlib.Core.Path.{_≡_, sym, ap, _∙_}
-use Prim.Native.Nat.{_-_}
+use mathlib.Core.Bool.{Bool}
+use mathlib.Core.List.{List}
+use Prim.Native.Nat.{ℕ, _-_}
+use lib.Dec.{ltb}
+use lib.ListN.{getD}
 use borrow.Author.Needs.{needs}
 use native.Mathlib.Omega.{arith}
 use Rattle.base.specs.Tests.{need, firstBad}
 use Rattle.base.proofs.Tests.{on, stop, over}
 use borrow.Author.Tests.{lt-ltb, le-ltb}
-use Rattle.lane.specs.Sound.{positionSound}
+use Rattle.lane.specs.declared.Standing.{Standing}
+use Rattle.lane.specs.State.{noStanding}
 use Rattle.lane_sound.proofs.soundness.positions.Statement.{statement}
 use Rattle.lane_sound.proofs.soundness.positions.Tie as tie
 
+-- the test of a position, by the arrays that were handed over
+abbrev right : List ℕ → List Standing → ℕ → Bool
+right count processes p = ltb (getD processes p noStanding .position) (getD count p 0)
+
 abbrev Inv-loop : tie.InvT-loop
-Inv-loop lane net p₀ p = firstBad (positionSound lane) p (lane .network .processes - p) ≡ firstBad (positionSound lane) 0 (lane .network .processes)
+Inv-loop count used processes p₀ p = firstBad (right count processes) p (used - p) ≡ firstBad (right count processes) 0 used
 
 abbrev μ-loop : tie.MeasureT-loop
-μ-loop lane net p₀ p = lane .network .processes - p
+μ-loop count used processes p₀ p = used - p
+
+abbrev test : (c : tie.Start Inv-loop μ-loop) → ℕ → Bool
+test c = right (c .args .count .now) (c .args .t2)
 
 loop-holds : tie.Need-loop-holds Inv-loop μ-loop
-loop-holds c = ap (firstBad (positionSound (c .before .args .t1)) 0) (omega arith)
+loop-holds c = ap (firstBad (test c) 0) (omega arith)
 
 mul-s : tie.Need-mul-s Inv-loop μ-loop
 mul-s c = search needs
 
-element-copy-out-s : tie.Need-element-copy-out-s Inv-loop μ-loop
-element-copy-out-s c = search needs
+array-copy-out-s : tie.Need-array-copy-out-s Inv-loop μ-loop
+array-copy-out-s c = search needs
 
 mul-if1 : tie.Need-mul-if1 Inv-loop μ-loop
 mul-if1 c = search needs
@@ -33,10 +45,10 @@ element-copy-out-if1 : tie.Need-element-copy-out-if1 Inv-loop μ-loop
 element-copy-out-if1 c = search needs
 
 returns : tie.Need-returns Inv-loop μ-loop
-returns c =
+returns c lane en es =
     let l = c .before .before .before .before .before .loop in
-    let lane = c .before .before .before .before .before .before .before .args .t1 in
-    sym (stop (λ k. need (positionSound lane k) k) (l .p) (lane .network .processes) (l .p) (omega arith) (rw (le-ltb _ _ (c .if1 .taken)))) ∙ l .inv
+    let s = c .before .before .before .before .before .before in
+    rw (en, es) (sym (stop (λ k. need (test s k) k) (l .p) (s .args .used) (l .p) (omega arith) (rw (le-ltb _ _ (c .if1 .taken)))) ∙ l .inv)
 
 add-p : tie.Need-add-p Inv-loop μ-loop
 add-p c = search needs
@@ -47,14 +59,14 @@ loop-less c = search needs
 loop-again : tie.Need-loop-again Inv-loop μ-loop
 loop-again c =
     let l = c .before .before .before .before .before .loop in
-    let lane = c .before .before .before .before .before .before .before .args .t1 in
-    on (λ k. need (positionSound lane k) k) (l .p) (lane .network .processes) (omega arith) (rw (lt-ltb _ _ (c .if1 .left))) ∙ l .inv
+    let s = c .before .before .before .before .before .before in
+    on (λ k. need (test s k) k) (l .p) (s .args .used) (omega arith) (rw (lt-ltb _ _ (c .if1 .left))) ∙ l .inv
 
 returns-2 : tie.Need-returns-2 Inv-loop μ-loop
-returns-2 c =
+returns-2 c lane en es =
     let l = c .before .loop in
-    let lane = c .before .before .before .args .t1 in
-    sym (over (λ k. need (positionSound lane k) k) (l .p) (lane .network .processes) (omega arith)) ∙ l .inv
+    let s = c .before .before in
+    rw (en, es) (sym (over (λ k. need (test s k) k) (l .p) (s .args .used) (omega arith)) ∙ l .inv)
 
 pub positions-spec : {M : Type 1} → statement M
-positions-spec = tie.close (tie.spec Inv-loop μ-loop loop-holds mul-s element-copy-out-s mul-if1 element-copy-out-if1 returns add-p loop-less loop-again returns-2)
+positions-spec = tie.close (tie.spec Inv-loop μ-loop loop-holds mul-s array-copy-out-s mul-if1 element-copy-out-if1 returns add-p loop-less loop-again returns-2)

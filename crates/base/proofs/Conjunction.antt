@@ -1,12 +1,12 @@
--- Tests that pass: both where their conjunction does; a number between two bounds; a verdict.
+-- Tests that pass: both where their conjunction does, neither where their disjunction does not; a number between two bounds; a verdict.
 -- Assumes nothing.
 use mathlib.Core.Path.{_≡_, refl, sym, ap, _∙_}
-use mathlib.Core.Bool.{Bool, true, false, _&&_, false≢true}
+use mathlib.Core.Bool.{Bool, true, false, _&&_, _||_, false≢true, true≢false}
 use Prim.Native.Nat.{ℕ, _≤_}
 use borrow.Author.Tests.{leb-true, le-leb}
 use Rattle.base.specs.declared.Verdict.{Verdict}
 use Rattle.base.specs.declared.Verdict.the-variants.{Good, Bad}
 use Rattle.base.specs.Tests.{isGood, between}
 
 pub both-true : (a b : Bool) → (a && b) ≡ true → (a ≡ true) × (b ≡ true)
 both-true true b e = (refl, e)
@@ -14,6 +14,10 @@ both-true false b e = absurd (false≢true e)
 
 pub true-both : (a b : Bool) → a ≡ true → b ≡ true → (a && b) ≡ true
 true-both a b p q = rw (p, q)
+
+pub neither : (a b : Bool) → (a || b) ≡ false → (a ≡ false) × (b ≡ false)
+neither true b e = absurd (true≢false e)
+neither false b e = (refl, e)
 
 pub good-is : (v : Verdict) → isGood v ≡ true → v ≡ Good
 good-is Good e = refl

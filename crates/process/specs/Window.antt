@@ -9,7 +9,7 @@ use lib.IntN.{ℤ, pos}
 abbrev pub at : List ℤ → ℕ → ℤ
 at xs i = getD xs i (pos 0)
 
-abbrev pub eight : List ℤ → ℕ → List ℤ
+unfoldable pub eight : List ℤ → ℕ → List ℤ
 eight xs b = at xs b ∷ at xs (b + 1) ∷ at xs (b + 2) ∷ at xs (b + 3) ∷ at xs (b + 4) ∷ at xs (b + 5) ∷ at xs (b + 6) ∷ at xs (b + 7) ∷ []
 
 -- the eight registers r put there
