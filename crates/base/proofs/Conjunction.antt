@@ -15,9 +15,25 @@ both-true false b e = absurd (false≢true e)
 pub true-both : (a b : Bool) → a ≡ true → b ≡ true → (a && b) ≡ true
 true-both a b p q = rw (p, q)
 
+-- the second of three tests
+pub middle : (a b c : Bool) → (a && b && c) ≡ true → b ≡ true
+middle a b c e = both-true a b (both-true (a && b) c e .0) .1
+
 pub neither : (a b : Bool) → (a || b) ≡ false → (a ≡ false) × (b ≡ false)
 neither true b e = absurd (true≢false e)
 neither false b e = (refl, e)
+
+pub or-false : (a : Bool) → (a || false) ≡ a
+or-false true = refl
+or-false false = refl
+
+pub or-true : (a : Bool) → (a || true) ≡ true
+or-true true = refl
+or-true false = refl
+
+pub is-false : (b : Bool) → (b ≡ true → ⊥) → b ≡ false
+is-false true n = absurd (n refl)
+is-false false n = refl
 
 pub good-is : (v : Verdict) → isGood v ≡ true → v ≡ Good
 good-is Good e = refl

@@ -71,3 +71,9 @@ module _ {A : Type 0} (f : ℕ → A) (d : A) (old : List A) where
 
   pub filled-all : (n : ℕ) (a : List A) → length old ≡ n → Filled f d old n a → a ≡ table n f
   filled-all n a e s = table-is f n d a (s .long ∙ e) (s .done)
+
+-- what stands in a list of one value, or past its end
+pub same-at : {A : Type 0} (n k : ℕ) (a : A) → getD (replicate n a) k a ≡ a
+same-at zero k a = refl
+same-at (suc n) zero a = refl
+same-at (suc n) (suc k) a = same-at n k a

@@ -50,11 +50,18 @@ each f (suc n) i e k h l = go (decLt i k) (both (f i) (inTurn f (suc i) n) e) (e
     go (yes m) b s = s (b .1) k m (omega arith)
     go (no m) b s = let q : k ≡ i = omega arith in rw q (b .0)
 
+-- of plain tests
+pub each-true : (test : ℕ → Bool) (i n : ℕ) → firstBad test i n ≡ Good → (k : ℕ) → i ≤ k → k < i + n → test k ≡ true
+each-true test i n e k h l = need-true (test k) k (each (λ k. need (test k) k) n i e k h l)
+
 -- each passed: all passed
 pub all : (f : ℕ → Verdict) (n i : ℕ) → ((k : ℕ) → i ≤ k → k < i + n → f k ≡ Good) → inTurn f i n ≡ Good
 unfolding inTurn
 all f zero i g = refl
 all f (suc n) i g = rw (g i (omega arith) (omega arith)) (all f n (suc i) (λ k h l. g k (omega arith) (omega arith)))
+
+pub all-true : (test : ℕ → Bool) (i n : ℕ) → ((k : ℕ) → i ≤ k → k < i + n → test k ≡ true) → firstBad test i n ≡ Good
+all-true test i n g = all (λ k. need (test k) k) n i (λ k h l. true-need (test k) k (g k h l))
 
 -- tests that agree have one verdict
 pub same : (f g : ℕ → Verdict) (n i : ℕ) → ((k : ℕ) → i ≤ k → k < i + n → f k ≡ g k) → inTurn f i n ≡ inTurn g i n

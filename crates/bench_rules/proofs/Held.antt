@@ -10,6 +10,7 @@ use borrow.Author.Tests.{eq-eqb, not-true}
 use lib.Dec.{eqb}
 use lib.IntN.{ℤ}
 use lib.ListN.{getD, set}
+use Rattle.base.proofs.Tests.{each-true}
 use Rattle.base.specs.Tests.{between}
 use Rattle.base.specs.Lists.{values}
 use Rattle.network.specs.declared.Network.{Network}
@@ -27,7 +28,7 @@ use Rattle.lane.specs.declared.Lane.{Lane}
 use Rattle.lane.specs.State.{World, world, channelOf, putChannel, freshChannel, freshOf}
 use Rattle.lane.specs.Pick.{dropFrom, stepAt, stepFor, pickIn}
 use Rattle.lane.specs.Calls.{Called, receiverEnded, feedOf, closeOf}
-use Rattle.lane.proofs.SoundLaws.{at-good, sound-says}
+use Rattle.lane.proofs.SoundLaws.{sound-says}
 use Rattle.lane.proofs.PickLaws.{channelAt, steppedLane, pick-by}
 use Rattle.lane.proofs.CallCases.{feed-cases, close-cases}
 use Rattle.relief.specs.Relief.{grown}
@@ -146,7 +147,7 @@ receiver-inside : (n : Network) → passes n ≡ true → (c : ℕ) → c < n .c
 unfolding records
 receiver-inside n e c h s =
     ends-inside (senderOf n c) (receiverOf n c) (capacityOf n c) (n .processes)
-    (at-good (recordRight n) 0 (n .channels) (passed n e .records-good) c (omega arith) (omega arith)) s
+    (each-true (recordRight n) 0 (n .channels) (passed n e .records-good) c (omega arith) (omega arith)) s
 
 -- ---- a feed goes to a channel from outside, so not to one that goes outside
 stored-held : (c : ℕ) (v : ℤ) (w : World) → goesOutside (w .lane .network) c ≡ false → (gone : Bool)

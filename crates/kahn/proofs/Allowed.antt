@@ -14,7 +14,7 @@ use Rattle.network.specs.declared.Network.{Network}
 use Rattle.network.specs.declared.Instruction.{Instruction}
 use Rattle.network.specs.Code.{fieldsRight, register, unnamed, target}
 use Rattle.network.specs.Rules.{senderOf, receiverOf, receives, sends}
-use Rattle.base.proofs.Conjunction.{both-true}
+use Rattle.base.proofs.Conjunction.{both-true, middle}
 use Rattle.arithmetic.specs.declared.Divided.{Divided}
 use Rattle.arithmetic.specs.declared.Divided.the-variants.{By, Zero}
 use Rattle.arithmetic.specs.Quotient.{quotientOf, remainderOf}
@@ -52,9 +52,6 @@ receiverIn n c = cond (ltb c (n .channels)) (receiverOf n c) 254
 end-is : (there : Bool) (e p : ℕ) → (there && eqb e p) ≡ true → cond there e 254 ≡ p
 end-is true e p h = eqb-true e p h
 end-is false e p h = absurd (false≢true h)
-
-middle : (a b c : Bool) → (a && b && c) ≡ true → b ≡ true
-middle a b c e = both-true a b (both-true (a && b) c e .0) .1
 
 -- ---- it owns the channel
 module _ (n : Network) (p count : ℕ) (q : Process) where

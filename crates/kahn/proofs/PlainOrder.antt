@@ -12,6 +12,7 @@ use borrow.Author.Tests.{ltb-true, ltb-false, lt-ltb, eqb-true, eq-eqb, ne-eqb}
 use lib.Dec.{eqb, ltb}
 use lib.IntN.{ℤ, pos}
 use lib.ListN.{length, getD, getElem?}
+use Rattle.base.proofs.Conjunction.{or-false}
 use Rattle.network.specs.declared.Network.{Network}
 use Rattle.network.specs.Rules.{senderOf, passes}
 use Rattle.network.proofs.Passed.{passed}
@@ -47,11 +48,7 @@ end-closes shut true e p h = go shut (eqb e p)
     go true false = refl
     go false true = refl
     go false false = refl
-end-closes shut false e p h = go shut ∙ sym (rw (ne-eqb 254 p (λ k. h (sym k))))
-  where
-    go : (a : Bool) → (a || false) ≡ a
-    go true = refl
-    go false = refl
+end-closes shut false e p h = or-false shut ∙ sym (rw (ne-eqb 254 p (λ k. h (sym k))))
 
 -- channel c comes from outside
 pub outside-is : (there : Bool) (e : ℕ) → (there && eqb e 255) ≡ eqb (cond there e 254) 255

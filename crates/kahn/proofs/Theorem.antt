@@ -12,7 +12,7 @@ use borrow.Author.Tests.{lt-ltb, eqb-true, eq-eqb}
 use lib.Dec.{eqb}
 use lib.IntN.{ℤ, pos}
 use lib.ListN.{length, getD, take, drop, replicate, length-replicate, take-append-drop}
-use Rattle.base.proofs.Lists.{length-values, table-at}
+use Rattle.base.proofs.Lists.{length-values, table-at, same-at}
 use Rattle.network.specs.declared.Network.{Network}
 use Rattle.network.specs.Rules.{receiverOf, passes}
 use Rattle.base.proofs.Conjunction.{both-true}
@@ -48,11 +48,6 @@ use Rattle.kahn.proofs.Sent.{sent-is}
 use Rattle.kahn.proofs.Lawful.{from-outside, fair-legal}
 
 -- ---- the start
-all-same : {A : Type 0} (k i : ℕ) (a : A) → getD (replicate k a) i a ≡ a
-all-same zero i a = refl
-all-same (suc k) zero a = refl
-all-same (suc k) (suc i) a = all-same k i a
-
 eight-null : (xs : List ℤ) (b : ℕ) → ((i : ℕ) → getD xs i (pos 0) ≡ pos 0) → eight xs b ≡ replicate 8 (pos 0)
 unfolding eight
 eight-null xs b h = rw (h b, h (b + 1), h (b + 2), h (b + 3), h (b + 4), h (b + 5), h (b + 6), h (b + 7))
@@ -73,7 +68,7 @@ module _ (n : Network) (pass : passes n ≡ true) where
   fresh-process : (p : ℕ) → processOf (freshOf n) p ≡ newProcess
   unfolding freshOf
   fresh-process p =
-      rw (eight-null (replicate 128 (pos 0)) (8 * p) (λ i. all-same 128 i (pos 0)), all-same 16 p noStanding)
+      rw (eight-null (replicate 128 (pos 0)) (8 * p) (λ i. same-at 128 i (pos 0)), same-at 16 p noStanding)
 
   stands-fresh : (cells : List ℤ) → length cells ≡ 8192 → Stands n pass (board n cells) (empty (netOf n pass)) (λ c. [])
   unfolding freshOf

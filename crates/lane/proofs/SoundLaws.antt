@@ -12,8 +12,8 @@ use lib.IntN.{ℤ, pos, negsuc}
 use lib.ListN.{length, getD, replicate, List·getD-eq-default}
 use Rattle.base.specs.declared.Verdict.the-variants.{Good}
 use Rattle.base.specs.Tests.{need, firstBad, isGood}
-use Rattle.base.proofs.Tests.{each, all, need-true, true-need}
-use Rattle.base.proofs.Lists.{table-at}
+use Rattle.base.proofs.Tests.{each, all, need-true, true-need, each-true, all-true}
+use Rattle.base.proofs.Lists.{table-at, same-at}
 use Rattle.network.specs.declared.Network.{Network}
 use Rattle.network.specs.Rules.{countOf, senderOf, receiverOf, capacityOf, outside, endRight, endsRight, recordRight, records, recordZero, unusedRecords, passes}
 use Rattle.base.proofs.Conjunction.{both-true, good-is, between-true, true-between}
@@ -40,14 +40,11 @@ implies true b f = f refl
 implies false b f = refl
 
 -- a test of each place of a range, and what it says
-pub at-good : (good : ℕ → Bool) (i n : ℕ) → firstBad good i n ≡ Good → (k : ℕ) → i ≤ k → k < i + n → good k ≡ true
-at-good good i n e k h l = need-true (good k) k (each (λ k. need (good k) k) n i e k h l)
-
 pub at-each : (good : ℕ → Bool) (i n : ℕ) → isGood (firstBad good i n) ≡ true → (k : ℕ) → i ≤ k → k < i + n → good k ≡ true
-at-each good i n e = at-good good i n (good-is _ e)
+at-each good i n e = each-true good i n (good-is _ e)
 
 pub each-at : (good : ℕ → Bool) (i n : ℕ) → ((k : ℕ) → i ≤ k → k < i + n → good k ≡ true) → isGood (firstBad good i n) ≡ true
-each-at good i n g = ap isGood (all (λ k. need (good k) k) n i (λ k h l. true-need (good k) k (g k h l)))
+each-at good i n g = ap isGood (all-true good i n g)
 
 -- ---- a channel
 pub record ChannelSound (senderEnded receiverEnded : Bool) (h : Channel) : Type 0 where
@@ -178,12 +175,6 @@ says-sound l s =
     )
 
 -- ---- the lane at the start
--- what stands in a list of one value, or past its end
-same-at : {A : Type 0} (n k : ℕ) (a : A) → getD (replicate n a) k a ≡ a
-same-at zero k a = refl
-same-at (suc n) zero a = refl
-same-at (suc n) (suc k) a = same-at n k a
-
 ends-capacity : (sender receiver capacity processes : ℕ) → endsRight sender receiver capacity processes ≡ true → (1 ≤ capacity) × (capacity ≤ 256)
 unfolding endsRight
 ends-capacity sender receiver capacity processes e =
@@ -195,12 +186,12 @@ module _ (n : Network) (e : passes n ≡ true) where
   unfolding records
   capacity-right c h =
       ends-capacity (senderOf n c) (receiverOf n c) _ (n .processes)
-      (at-good (recordRight n) 0 (n .channels) (passed n e .records-good) c (omega arith) (omega arith))
+      (each-true (recordRight n) 0 (n .channels) (passed n e .records-good) c (omega arith) (omega arith))
 
   capacity-zero : (c : ℕ) → n .channels ≤ c → c < 32 → capacityOf n c ≡ 0
   unfolding unusedRecords
   capacity-zero c h l =
-      let r = at-good (recordZero n) (n .channels) (32 - n .channels) (passed n e .unused-records-good) c h (omega arith) in
+      let r = each-true (recordZero n) (n .channels) (32 - n .channels) (passed n e .unused-records-good) c h (omega arith) in
       eqb-true _ _ (both-true (eqb (senderOf n c) 0 && eqb (receiverOf n c) 0) (eqb (capacityOf n c) 0) r .1)
 
   -- a process that has not ended

@@ -11,7 +11,7 @@ use lib.Dec.{eqb}
 use lib.ListN.{length, getD, take, drop}
 use Rattle.base.specs.declared.Verdict.the-variants.{Good}
 use Rattle.base.specs.Lists.{wordAt, twoBytes}
-use Rattle.base.proofs.Tests.{both-good, true-need, all}
+use Rattle.base.proofs.Tests.{both-good, true-need, all, each-true, all-true}
 use Rattle.block_check.specs.Crc.{crc}
 use Rattle.network.specs.declared.Network.{Network}
 use Rattle.network.specs.Rules.{startOf, countOf, senderOf, receiverOf, capacityOf, processesRight, channelsRight, slotZero, recordZero, slots, total, unusedSlots, unusedRecords}
@@ -21,7 +21,7 @@ use Rattle.lane_file.specs.File.{slotOf, recordOf}
 use Rattle.lane_file.specs.Read.{blocks, lengthRight, checkRight, checks, header, slotsIn, unusedFrom, codeRest, restIn}
 use Rattle.lane_file.proofs.Joined.{same-place}
 use Rattle.lane_file.proofs.Places.{blocksOf, Holds, first-places}
-use Rattle.lane_file.proofs.Verdicts.{each-true, all-true, all-zero, Seven}
+use Rattle.lane_file.proofs.Verdicts.{all-zero, Seven}
 use Rattle.lane_file.proofs.Fields.{word-is, code-zero}
 
 -- ---- unused entries are zero byte by byte

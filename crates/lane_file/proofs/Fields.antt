@@ -7,6 +7,7 @@ use native.Mathlib.Decide.{decLt}
 use native.Mathlib.Omega.{arith}
 use borrow.Author.Tests.{eqb-true}
 use lib.ListN.{getD, List·getD-eq-default}
+use Rattle.base.proofs.Tests.{each-true}
 use Rattle.base.specs.declared.Verdict.the-variants.{Good}
 use Rattle.base.specs.Lists.{wordAt}
 use Rattle.base.specs.Tests.{isZero}
@@ -17,7 +18,6 @@ use Rattle.network.proofs.Passed.{Passed}
 use Rattle.lane_file.specs.Read.{codePlace, networkOf}
 use Rattle.lane_file.proofs.Joined.{same-place}
 use Rattle.lane_file.proofs.Places.{Shaped, blocksOf, Holds}
-use Rattle.lane_file.proofs.Verdicts.{each-true}
 
 -- ---- the fields of the network that is read
 module _ (s : List ℕ) where

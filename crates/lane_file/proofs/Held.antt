@@ -12,7 +12,7 @@ use lib.ListN.{length, getD, take, drop, List·getD-eq-default}
 use Rattle.base.specs.declared.Verdict.the-variants.{Good}
 use Rattle.base.specs.Lists.{wordAt, twoBytes}
 use Rattle.base.specs.Tests.{need, isZero}
-use Rattle.base.proofs.Tests.{both, need-true}
+use Rattle.base.proofs.Tests.{both, need-true, each-true, all-true}
 use Rattle.block_check.specs.Crc.{crc}
 use Rattle.network.specs.Rules.{startOf, countOf, senderOf, receiverOf, capacityOf, slotZero, recordZero, slots, total, unusedSlots, unusedRecords, unusedCode}
 use Rattle.base.proofs.Conjunction.{both-true, true-both, between-true}
@@ -21,7 +21,7 @@ use Rattle.lane_file.specs.File.{headerOf, slotOf, recordOf}
 use Rattle.lane_file.specs.Read.{Bytes, blocks, codePlace, networkOf, checkRight, checks}
 use Rattle.lane_file.proofs.Joined.{same-place}
 use Rattle.lane_file.proofs.Places.{blocksOf, Holds}
-use Rattle.lane_file.proofs.Verdicts.{each-true, all-true, Seven, Headed, headed, Rested, rested}
+use Rattle.lane_file.proofs.Verdicts.{Seven, Headed, headed, Rested, rested}
 use Rattle.lane_file.proofs.Fields.{processes-of, channels-of, start-of, count-of, sender-of, receiver-of, capacity-of, code-of}
 
 -- the two bytes of a number that stands in a list of bytes

@@ -11,19 +11,13 @@ use lib.ListN.{length, getD}
 use Rattle.base.specs.declared.Verdict.{Verdict}
 use Rattle.base.specs.declared.Verdict.the-variants.{Good, Bad}
 use Rattle.base.specs.Tests.{need, inTurn, firstBad, isZero}
-use Rattle.base.proofs.Tests.{both, each, all, need-true, true-need}
+use Rattle.base.proofs.Tests.{both, each, all, need-true, true-need, each-true, all-true}
 use Rattle.network.specs.declared.Network.{Network}
 use Rattle.network.specs.Rules.{processesRight, channelsRight, records, total, instructions}
 use Rattle.base.proofs.Conjunction.{between-true}
 use Rattle.lane_file.specs.Read.{Told, accepted, refused, blocks, lengthRight, checks, header, slotsIn, unusedFrom, codeRest, restIn, zerosIn, unless, answerIn}
 
 -- ---- tests place by place
-pub each-true : (test : ℕ → Bool) (i n : ℕ) → firstBad test i n ≡ Good → (k : ℕ) → i ≤ k → k < i + n → test k ≡ true
-each-true test i n e k h l = need-true (test k) k (each (λ k. need (test k) k) n i e k h l)
-
-pub all-true : (test : ℕ → Bool) (i n : ℕ) → ((k : ℕ) → i ≤ k → k < i + n → test k ≡ true) → firstBad test i n ≡ Good
-all-true test i n g = all (λ k. need (test k) k) n i (λ k h l. true-need (test k) k (g k h l))
-
 pub each-zero : (s : List ℕ) (a e : ℕ) → zerosIn s a e ≡ Good → (j : ℕ) → a ≤ j → j < e → getD s j 0 ≡ 0
 each-zero s a e g j h l = eqb-true (getD s j 0) 0 (each-true (isZero s) a (e - a) g j h (omega arith))
 

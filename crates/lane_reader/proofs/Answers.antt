@@ -33,26 +33,6 @@ sized n e =
     let z = eqb-true (n % 512) 0 (b .0) in
     record { whole = z; low = omega arith; high = omega arith }
 
--- ---- 3
-pub record Headed (s : List ℕ) : Type 0 where
-  pub processes : getD s 3 0 ≤ 16
-  pub channels : getD s 4 0 ≤ 32
-  pub code : getD s 5 0 ≡ blocks s - 1
-
-pub headed : (s : List ℕ) → header s ≡ Good → Headed s
-unfolding header
-headed s e =
-    let a = both (need (eqb (getD s 0 0) 0x4C) 0) _ e in
-    let b = both (need (eqb (getD s 1 0) 0x4E) 1) _ (a .1) in
-    let c = both (need (eqb (getD s 2 0) 1) 2) _ (b .1) in
-    let d = both (need (processesRight (getD s 3 0)) 3) _ (c .1) in
-    let f = both (need (channelsRight (getD s 4 0)) 4) _ (d .1) in
-    record {
-      processes = between-true 1 (getD s 3 0) 16 (need-true _ 3 (d .0)) .1;
-      channels = between-true 1 (getD s 4 0) 32 (need-true _ 4 (f .0)) .1;
-      code = eqb-true (getD s 5 0) (blocks s - 1) (need-true _ 5 (f .1));
-    }
-
 -- ---- 4
 pub record Slotted (n : Network) : Type 0 where
   pub good : slots n ≡ Good

@@ -9,7 +9,7 @@ use Rattle.base.specs.declared.Verdict.the-variants.{Good}
 use Rattle.base.specs.Tests.{isGood}
 use Rattle.network.specs.declared.Network.{Network}
 use Rattle.network.specs.Rules.{slots, total, blocksFor, records, unusedSlots, unusedRecords, unusedCode, unusedZero, instructions, passes}
-use Rattle.base.proofs.Conjunction.{both-true, good-is, between-true, true-between}
+use Rattle.base.proofs.Conjunction.{both-true, good-is, between-true, true-between, is-false}
 use Rattle.network.proofs.Slot.{right-at, ends-within}
 
 pub record Passed (n : Network) : Type 0 where
@@ -85,8 +85,4 @@ passed-back {n} p =
 
 -- where one of the facts fails, the network does not pass
 pub refused : (n : Network) → (Passed n → ⊥) → passes n ≡ false
-refused n h = go (passes n) (λ e. h (passed n e))
-  where
-    go : (b : Bool) → (b ≡ true → ⊥) → b ≡ false
-    go true f = absurd (f refl)
-    go false f = refl
+refused n h = is-false (passes n) (λ e. h (passed n e))

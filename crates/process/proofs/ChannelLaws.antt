@@ -7,6 +7,7 @@ use Prim.Native.Nat.{ℕ, zero, suc}
 use borrow.Author.Tests.{eqb-false}
 use lib.Dec.{eqb}
 use lib.IntN.{ℤ}
+use Rattle.base.proofs.Conjunction.{middle}
 use Rattle.network.specs.declared.Instruction.{Instruction}
 use Rattle.network.specs.Code.{fieldsRight, register, unnamed, target}
 use Rattle.arithmetic.specs.declared.Divided.{Divided}
@@ -21,7 +22,6 @@ use Rattle.process.specs.Channels.{putOne, getOne, closeOne}
 use Rattle.process.specs.Intent.{Intent, idle, inner, receive, send, close, halt}
 use Rattle.process.specs.Want.{registerOf, divided, wantLive, wantIn, want}
 use Rattle.process.specs.Execute.{outcome, accept, execute, stepOf}
-use Rattle.process.proofs.Fields.{both}
 
 -- ---- what is wanted at a channel is wanted at its end
 abbrev AtEnd : Bool → Bool → Intent Process ℤ → Type 0
@@ -41,10 +41,6 @@ each-one : (P : ℕ → Type 0) (n : ℕ) → Below P n → (k : ℕ) → P k
 each-one P zero t k = t k
 each-one P (suc n) t zero = t .0
 each-one P (suc n) t (suc k) = each-one (λ j. P (suc j)) n (t .1) k
-
--- the second of three tests
-middle : (a b c : Bool) → (a && b && c) ≡ true → b ≡ true
-middle a b c e = both a b (both (a && b) c e .0) .1
 
 module _ (count : ℕ) (receives sends : Bool) (q : Process) where
   divided-at-end : (r : ℕ) (d : Divided) → AtEnd receives sends (divided r d q)

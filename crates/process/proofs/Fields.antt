@@ -11,6 +11,7 @@ use lib.IntN.{ℤ, pos}
 use lib.ListN.{getD, set, List·getD-eq-default}
 use lib.Seq.{set-getD}
 use borrow.Author.Tests.{ltb-true, eqb-true}
+use Rattle.base.proofs.Conjunction.{both-true}
 use Rattle.network.specs.Code.{register, unnamed, fieldsRight}
 use Rattle.network.specs.declared.Instruction.{Instruction}
 use Rattle.process.specs.declared.Channel.{Channel}
@@ -21,23 +22,19 @@ use Rattle.process.specs.Want.{faulted, wantLive}
 use Rattle.process.specs.Window.{at, eight}
 use Rattle.process.specs.Changes.{Steppable}
 
-pub both : (s t : Bool) → s && t ≡ true → (s ≡ true) × (t ≡ true)
-both true t e = (refl, e)
-both false t e = absurd (subst T (sym e) tt)
-
 -- the first of three fields, the second, the third
 pub first : (a : ℕ) (s t : Bool) → register a && s && t ≡ true → a < 8
-first a s t e = ltb-true a 8 (both (register a) s (both (register a && s) t e .0) .0)
+first a s t e = ltb-true a 8 (both-true (register a) s (both-true (register a && s) t e .0) .0)
 
 pub second : (r : Bool) (b : ℕ) (t : Bool) → r && register b && t ≡ true → b < 8
-second r b t e = ltb-true b 8 (both r (register b) (both (r && register b) t e .0) .1)
+second r b t e = ltb-true b 8 (both-true r (register b) (both-true (r && register b) t e .0) .1)
 
 pub third : (s : Bool) (c : ℕ) → s && register c ≡ true → c < 8
-third s c e = ltb-true c 8 (both s (register c) e .1)
+third s c e = ltb-true c 8 (both-true s (register c) e .1)
 
 -- a first field that is not named
 first-zero : (a : ℕ) (s t : Bool) → unnamed a && s && t ≡ true → a < 8
-first-zero a s t e = let z : a ≡ 0 = eqb-true a 0 (both (unnamed a) s (both (unnamed a && s) t e .0) .0) in omega arith
+first-zero a s t e = let z : a ≡ 0 = eqb-true a 0 (both-true (unnamed a) s (both-true (unnamed a && s) t e .0) .0) in omega arith
 
 -- ---- by the opcode: 0 to 13 in turn, and those above
 module _ (P : ℕ → Type 0) where

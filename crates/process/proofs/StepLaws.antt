@@ -12,6 +12,7 @@ use lib.Dec.{T, eqb, lit<, lit≤}
 use lib.ListN.{length, getD, length-set}
 use lib.IntN.{ℤ}
 use borrow.Author.Tests.{ltb-true, eqb-false}
+use Rattle.base.proofs.Conjunction.{both-true}
 use Rattle.network.specs.Code.{register, unnamed, fieldsRight, mayBeLast, standsRight}
 use Rattle.network.specs.declared.Instruction.{Instruction}
 use Rattle.arithmetic.specs.declared.Divided.{Divided}
@@ -27,7 +28,7 @@ use Rattle.process.specs.Channels.{putOne, getOne, closeOne}
 use Rattle.process.specs.Intent.{Intent, idle, inner, receive, send, close, halt}
 use Rattle.process.specs.Want.{counted, registerOf, onward, assigned, jumped, stopped, faulted, isNull, isNegative, divided, branched, wantLive, wantIn, want}
 use Rattle.process.specs.Execute.{outcome, execute, stepOf}
-use Rattle.process.proofs.Fields.{both, run-at, by-opcode, beyond}
+use Rattle.process.proofs.Fields.{run-at, by-opcode, beyond}
 
 -- ---- outcomes: those that change nothing, and the end
 abbrev pub waits : Outcome → Bool
@@ -277,7 +278,7 @@ module _ (last : Bool) (count : ℕ) (receives sends : Bool) (i : Instruction) (
 
   right : standsRight last count receives sends i ≡ true → (fieldsRight count receives sends i ≡ true) × ((not last || mayBeLast (i .op)) ≡ true)
   unfolding standsRight
-  right e = both _ _ e
+  right e = both-true _ _ e
 
   inside : last ≡ eqb (q .position + 1) count → q .position < count → (not last || mayBeLast (i .op)) ≡ true → mayBeLast (i .op) ≡ false → q .position + 1 < count
   inside e l r n = go last e (rw n at r)
@@ -290,12 +291,12 @@ module _ (last : Bool) (count : ℕ) (receives sends : Bool) (i : Instruction) (
   unfolding fieldsRight
   target r =
       run-at (λ k. i .op ≡ k → i .c < count) 4 8 (
-        λ e. ltb-true _ _ (both (unnamed (i .a) && unnamed (i .b)) _ (rw e at r) .1),
+        λ e. ltb-true _ _ (both-true (unnamed (i .a) && unnamed (i .b)) _ (rw e at r) .1),
         (
-          λ e. ltb-true _ _ (both (register (i .a) && unnamed (i .b)) _ (rw e at r) .1),
+          λ e. ltb-true _ _ (both-true (register (i .a) && unnamed (i .b)) _ (rw e at r) .1),
           (
-            λ e. ltb-true _ _ (both (register (i .a) && unnamed (i .b)) _ (rw e at r) .1),
-            (λ e. ltb-true _ _ (both (register (i .a) && receives) _ (rw e at r) .1), tt),
+            λ e. ltb-true _ _ (both-true (register (i .a) && unnamed (i .b)) _ (rw e at r) .1),
+            (λ e. ltb-true _ _ (both-true (register (i .a) && receives) _ (rw e at r) .1), tt),
           ),
         ),
       )

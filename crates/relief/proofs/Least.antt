@@ -14,14 +14,6 @@ use Rattle.base.proofs.Conjunction.{both-true}
 use Rattle.relief.specs.Rings.{someBelow, lesser, least}
 
 -- ---- tests
-pub or-false : (a : Bool) → (a || false) ≡ a
-or-false true = refl
-or-false false = refl
-
-pub or-true : (a : Bool) → (a || true) ≡ true
-or-true true = refl
-or-true false = refl
-
 iff : (a b : Bool) → (a ≡ true → b ≡ true) → (b ≡ true → a ≡ true) → a ≡ b
 iff true b f g = sym (f refl)
 iff false true f g = g refl

@@ -13,16 +13,13 @@ use borrow.Author.Tests.{lt-ltb, ltb-true, ltb-false}
 use lib.Dec.{ltb}
 use lib.ListN.{length, getD}
 use lib.Seq.{ext-getD}
+use Rattle.base.proofs.Conjunction.{is-false}
 use Rattle.relief.specs.Rings.{iter, OnRing, ringLength, chain, ringOf, someBelow, least, onRingBelow, firstFrom, Found, noRing, ceiling, found, search}
 use Rattle.relief.specs.Taken.{OnFullRing, Relievable, IsRing, Grows, Taken}
 use Rattle.relief.proofs.Least.{Below, below-says, says-below, some-at, at-some, least-each, least-in, least-below}
 use Rattle.relief.proofs.First.{first-holds, first-before, first-is}
 use Rattle.relief.proofs.Walk.{length-chain, Stays}
 use Rattle.relief.proofs.Circles.{RingOf, length-says, ring-length, on-ring, within, chain-at, ring-distinct, ring-reach, ring-back, ring-around}
-
-is-false : (b : Bool) → (b ≡ true → ⊥) → b ≡ false
-is-false true n = absurd (n refl)
-is-false false n = refl
 
 -- ---- the list of a ring
 module _ (f : ℕ → ℕ) where

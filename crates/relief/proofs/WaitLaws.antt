@@ -11,7 +11,8 @@ use borrow.Author.Tests.{lt-ltb, le-ltb, eqb-true, ne-eqb}
 use lib.Dec.{eqb, ltb}
 use lib.IntN.{ℤ}
 use lib.ListN.{length, getD, replicate, List·getD-eq-default}
-use Rattle.base.proofs.Lists.{Filled}
+use Rattle.base.proofs.Tests.{each-true}
+use Rattle.base.proofs.Lists.{Filled, same-at}
 use Rattle.network.specs.declared.Instruction.{Instruction}
 use Rattle.network.specs.Rules.{countOf, startOf, senderOf, receiverOf, slotZero, unusedSlots, outside}
 use Rattle.base.proofs.Conjunction.{both-true}
@@ -31,7 +32,7 @@ use Rattle.process.proofs.Fields.{by-opcode, beyond}
 use Rattle.lane.specs.declared.Lane.{Lane}
 use Rattle.lane.specs.State.{world, noInstruction, noStanding, standingOf, processOf, isEnded, endedAt, channelOf, standsAt}
 use Rattle.lane.specs.Pick.{channelIn, instructionFor, stepAt, stepFor}
-use Rattle.lane.proofs.SoundLaws.{Sound, at-good, ended-at}
+use Rattle.lane.proofs.SoundLaws.{Sound, ended-at}
 use Rattle.relief.specs.declared.Waiting.{Waiting}
 use Rattle.relief.specs.declared.Waiting.the-variants.{Free, Empty, Full}
 use Rattle.relief.specs.declared.Wait.{Wait}
@@ -192,7 +193,7 @@ module _ (l : Lane) (s : Sound l) (long : length (l .network .count) ≡ 16) (p 
     where
       go : Dec (p < 16) → countOf (l .network) p ≡ 0
       go (yes m) =
-          let z = at-good (slotZero (l .network)) (l .network .processes) (16 - l .network .processes) (passed (l .network) (s .passed) .unused-slots-good) p h (omega arith) in
+          let z = each-true (slotZero (l .network)) (l .network .processes) (16 - l .network .processes) (passed (l .network) (s .passed) .unused-slots-good) p h (omega arith) in
           eqb-true _ _ (both-true (eqb (startOf (l .network) p) 0) (eqb (countOf (l .network) p) 0) z .1)
       go (no m) = List·getD-eq-default (l .network .count) 0 {n = p} (omega arith)
 
@@ -225,18 +226,13 @@ module _ (l : Lane) (s : Sound l) (long : length (l .network .count) ≡ 16) whe
       go (yes h) = points-at points (l .network .processes) p h ∙ e h
       go (no h) = points-off points (l .network .processes) p (omega arith) ∙ sym (no-pointing p (omega arith))
 
-  zeros : (n k : ℕ) → _≡_ {A = ℕ} (getD (replicate n 0) k 0) 0
-  zeros zero k = refl
-  zeros (suc n) zero = refl
-  zeros (suc n) (suc k) = zeros n k
-
   same-numbers : (f : ℕ → ℕ) (p : ℕ) (numbers : List ℕ) → l .network .processes ≤ p → ((q : ℕ) → l .network .processes ≤ q → f q ≡ 0) → Filled f 0 (replicate 16 0) p numbers
       → (q : ℕ) → getD numbers q 0 ≡ f q
   same-numbers f p numbers h none t q = go (decLt q p)
     where
       go : Dec (q < p) → getD numbers q 0 ≡ f q
       go (yes m) = t .done q m
-      go (no m) = t .kept q (omega arith) ∙ zeros 16 q ∙ sym (none q (omega arith))
+      go (no m) = t .kept q (omega arith) ∙ same-at 16 q 0 ∙ sym (none q (omega arith))
 
   pub filled-waits : (p : ℕ) {old points full channel : List ℕ} → l .network .processes ≤ p
       → Filled (pointing l) 0 old p points → Filled (fullWait l) 0 (replicate 16 0) p full → Filled (waitsAt l) 0 (replicate 16 0) p channel

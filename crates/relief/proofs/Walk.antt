@@ -10,10 +10,11 @@ use borrow.Author.Tests.{lt-ltb, le-ltb, eq-eqb, ne-eqb}
 use lib.Dec.{ltb}
 use lib.ListN.{length, getD, take, set, length-set}
 use lib.Seq.{take-suc-set}
+use Rattle.base.proofs.Conjunction.{or-true, or-false}
 use Rattle.network.specs.Rules.{outside}
 use Rattle.relief.specs.Rings.{iter, closesFrom, ringLength, chain, ringOf, someBelow, lesser, least, onRingBelow, firstFrom, noRing, ceiling, found, search}
 use Rattle.relief.specs.Parts.{pointsIn}
-use Rattle.relief.proofs.Least.{or-true, or-false, Below, least-more, some-least}
+use Rattle.relief.proofs.Least.{Below, least-more, some-least}
 use Rattle.relief.proofs.First.{on, stop, over}
 
 -- ---- chains of pointings

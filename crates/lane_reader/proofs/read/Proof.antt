@@ -8,10 +8,11 @@ use native.Mathlib.Omega.{arith}
 use borrow.Author.Needs.{needs}
 use borrow.Author.Tests.{not-true, not-false}
 use lib.ListN.{length}
+use Rattle.lane_file.proofs.Verdicts.{headed}
 use Rattle.base.specs.declared.Verdict.the-variants.{Good}
 use Rattle.base.specs.declared.Refusal.the-variants.{Length, Check, Header}
 use Rattle.lane_file.specs.Read.{networkOf, lengthRight, checks, header, told, answerIn}
-use Rattle.lane_reader.proofs.Answers.{sized, headed, first-passed, result-refused, result-accepted}
+use Rattle.lane_reader.proofs.Answers.{sized, first-passed, result-refused, result-accepted}
 use Rattle.lane_reader.proofs.read.Statement.{statement}
 use Rattle.lane_reader.proofs.read.Tie as tie
 
@@ -100,7 +101,7 @@ tested-requires c κs =
     let h = sized (length s) (p .0) in
     let d = headed s (p .2) in
     let e = c .network-of .ensures in
-    (h .low, h .high, omega (arith, h .high, d .code), rw e (d .processes), rw e (d .channels))
+    (h .low, h .high, omega (arith, h .high, d .at-5), rw e (d .processes .1), rw e (d .channels .1))
 
 enum-known-answer : tie.Need-enum-known-answer
 enum-known-answer c = search needs

@@ -2,7 +2,7 @@
 -- Assumes nothing.
 use native.Mathlib.Omega.{arith}
 use borrow.Author.Tests.{le-ltb, eq-eqb, ne-eqb}
-use Rattle.relief.proofs.Least.{or-false}
+use Rattle.base.proofs.Conjunction.{or-false}
 use Rattle.relief.proofs.search.lesser.Statement.{statement}
 use Rattle.relief.proofs.search.lesser.Tie as tie
 
