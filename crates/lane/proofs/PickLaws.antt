@@ -10,6 +10,7 @@ use lib.Dec.{eqb, ltb}
 use lib.IntN.{ℤ, pos}
 use lib.ListN.{length, set, length-set}
 use lib.Seq.{set-getD, getD-set-other}
+use Rattle.process.specs.Changes.{isHalted}
 use Rattle.network.specs.declared.Instruction.{Instruction}
 use Rattle.network.specs.declared.Network.{Network}
 use Rattle.network.specs.Rules.{countOf, senderOf, receiverOf, receives, sends}
@@ -19,7 +20,7 @@ use Rattle.process.specs.declared.Outcome.{Outcome}
 use Rattle.process.specs.declared.Outcome.the-variants.{Moved, Sent, Halted, WaitEmpty, WaitFull, Ended}
 use Rattle.process.specs.Channels.{noChannel, putOne, getOne, closeOne, slot}
 use Rattle.process.specs.Execute.{outcome}
-use Rattle.process.proofs.StepLaws.{waits, halts, step-place, step-condition, step-still}
+use Rattle.process.proofs.StepLaws.{waits, step-place, step-condition, step-still}
 use Rattle.process.proofs.ChannelLaws.{step-channel-by}
 use Rattle.lane.specs.declared.Lane.{Lane}
 use Rattle.lane.specs.State.{World, world, cellAt, noStanding, standingOf, isEnded, processOf, putProcess, endedAt, channelOf, putChannel, putChannels}
@@ -47,7 +48,7 @@ steppedLane p w = putProcess p (stepFor p w .process) (putChannel (channelAt p (
 -- what follows for the channels and cells, by cases
 settle-by :
     (P : World → Type 0) (p to : ℕ) (w : World) (o : Outcome)
-    → (halts o ≡ false → P w)
+    → (isHalted o ≡ false → P w)
     → ((v : ℤ) → o ≡ Sent v → P (world (w .lane) (set (w .cells) to v)))
     → (o ≡ Halted → P (world (putChannels (dropFrom (w .lane .network) p 0 (w .lane .channels)) (w .lane)) (w .cells)))
     → P (settle o p to w)
@@ -61,7 +62,7 @@ settle-by P p to w Ended same sent halted = same refl
 -- what a pick leaves, by cases
 pub pick-by :
     (P : World → Type 0) (p : ℕ) (w : World)
-    → (halts (stepFor p w .outcome) ≡ false → P (world (steppedLane p w) (w .cells)))
+    → (isHalted (stepFor p w .outcome) ≡ false → P (world (steppedLane p w) (w .cells)))
     → ((v : ℤ) → stepFor p w .outcome ≡ Sent v → P (world (steppedLane p w) (set (w .cells) (cellFor p (w .lane)) v)))
     → (stepFor p w .outcome ≡ Halted → P (world (putChannels (dropFrom (w .lane .network) p 0 (steppedLane p w .channels)) (steppedLane p w)) (w .cells)))
     → P (pickIn p w)
@@ -84,7 +85,7 @@ module _ (p : ℕ) (w : World) (s : Sound (w .lane)) (b : p < w .lane .network .
       (s .positions p b)
 
   -- only an end changes the condition
-  condition : halts (stepFor p w .outcome) ≡ false → stepFor p w .process .condition ≡ standingOf (w .lane) p .condition
+  condition : isHalted (stepFor p w .outcome) ≡ false → stepFor p w .process .condition ≡ standingOf (w .lane) p .condition
   unfolding stepAt
   condition = step-condition (instructionFor p (w .lane)) (processOf (w .lane) p) _ _ _
 
@@ -137,9 +138,9 @@ picked-sound p w shaped b s =
     let q : Process = stepFor p w .process in
     let l : Lane = putChannel (channelAt p (w .lane)) (stepFor p w .channel) (w .lane) in
     let back = channel-back p w s b in
-    let on : halts (stepFor p w .outcome) ≡ false → Sound (steppedLane p w) =
+    let on : isHalted (stepFor p w .outcome) ≡ false → Sound (steppedLane p w) =
     λ e. put-process-sound p q l back b (place p w s b) (ap isEnded (condition p w s b e)) in
-    pick-by (λ (x : World). Sound (x .lane)) p w on (λ v e. on (ap halts e))
+    pick-by (λ (x : World). Sound (x .lane)) p w on (λ v e. on (ap isHalted e))
     (λ e. end-sound p q l (put-channel-shaped (channelAt p (w .lane)) (stepFor p w .channel) (w .lane) shaped) back b (place p w s b))
 
 -- the same of the test

@@ -18,15 +18,6 @@ pub record Shaped (l : Lane) : Type 0 where
   pub processes : length (l .processes) ≡ 16
   pub channels : length (l .channels) ≡ 32
 
--- the arrays of a network, which no call changes
-pub record NetworkShaped (n : Network) : Type 0 where
-  pub first : length (n .first) ≡ 16
-  pub count : length (n .count) ≡ 16
-  pub sender : length (n .sender) ≡ 32
-  pub receiver : length (n .receiver) ≡ 32
-  pub capacity : length (n .capacity) ≡ 32
-  pub code : length (n .code) ≡ 4064
-
 -- a process put back
 pub put-process-shaped : (p : ℕ) (q : Process) (l : Lane) → Shaped l → Shaped (putProcess p q l)
 put-process-shaped p q l s =

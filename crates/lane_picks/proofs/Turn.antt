@@ -28,7 +28,7 @@ use Rattle.process.specs.declared.Outcome.the-variants.{Moved, Sent, Halted, Wa
 use Rattle.process.specs.Channels.{slot}
 use Rattle.process.specs.Want.{counted}
 use Rattle.process.specs.Execute.{stepOf}
-use Rattle.process.specs.Changes.{inStance, movesAfter, changed, Steppable}
+use Rattle.process.specs.Changes.{inStance, movesAfter, changed, Steppable, isHalted}
 use Rattle.process.proofs.Fields.{own-low}
 use Rattle.lane.specs.declared.Standing.{Standing}
 use Rattle.lane.specs.declared.Lane.{Lane}
@@ -36,7 +36,7 @@ use Rattle.process.specs.Window.{eight, putEight}
 use Rattle.lane.specs.State.{World, world, cellAt, noStanding, standingOf, split, processOf, isEnded, channelOf, putChannels, standsAt}
 use Rattle.lane.specs.Pick.{channelIn, dropFrom, settle, putBack, stepAt, instructionFor, stepFor, pickIn, hasMoved, Progress, pickNext, pickAll, roundsEnd, recounted, pickRounds}
 use Rattle.lane_picks.specs.declared.Stage.{Stage}
-use Rattle.lane_picks.specs.Turn.{wordAfter, isHalted, onwardOf}
+use Rattle.lane_picks.specs.Turn.{wordAfter, onwardOf}
 use Rattle.lane_picks.proofs.Rounds.{after, none-after, one-after, onward-either}
 use Rattle.lane.proofs.Shape.{Shaped}
 use Rattle.lane.proofs.Windows.{put-one}

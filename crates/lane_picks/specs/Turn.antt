@@ -1,6 +1,6 @@
--- One pick as the code makes it, part by part: the cell of a message, the end of a process, the ends of the channels.
+-- One pick as the code makes it, part by part: the cell of a message, the ends of the channels, where the loop goes on.
 -- Assumes nothing.
-use mathlib.Core.Bool.{Bool, true, false, cond, _||_}
+use mathlib.Core.Bool.{cond, _||_}
 use mathlib.Core.List.{List, []}
 use Prim.Native.Nat.{ℕ, _+_, _-_}
 use lib.Dec.{eqb, ltb}
@@ -18,15 +18,6 @@ wordAfter Halted old = old
 wordAfter WaitEmpty old = old
 wordAfter WaitFull old = old
 wordAfter Ended old = old
-
--- the process ended by this step
-abbrev pub isHalted : Outcome → Bool
-isHalted Moved = false
-isHalted (Sent v) = false
-isHalted Halted = true
-isHalted WaitEmpty = false
-isHalted WaitFull = false
-isHalted Ended = false
 
 -- a network with these senders and receivers of so many channels, and nothing else
 abbrev pub ends : List ℕ → List ℕ → ℕ → Network

@@ -16,11 +16,11 @@ ghost use Prim.Native.Nat.{ℕ, _+_, _*_, _≤_, _<_};
 ghost use lib.IntN.{pos};
 ghost use lib.ListN.{length, getD, set};
 ghost use Rattle.process.specs.Channels.{slot, dropOne};
-ghost use Rattle.process.specs.Changes.{movesAfter};
+ghost use Rattle.process.specs.Changes.{movesAfter, isHalted};
 ghost use Rattle.lane.specs.State.{world};
 ghost use Rattle.lane.specs.Sound.{soundOf};
 ghost use Rattle.lane.specs.Pick.{channelIn, dropFrom, hasMoved, progressOf, pickAll, roundsOf, pickRounds, unpicked};
-ghost use Rattle.lane_picks.specs.Turn.{wordAfter, isHalted, ends, onwardOf};
+ghost use Rattle.lane_picks.specs.Turn.{wordAfter, ends, onwardOf};
 
 // ---- the process that is picked
 // Where the registers of process p begin.

@@ -8,6 +8,7 @@ use network::Network;
 use process::Channel;
 use process::Condition;
 pub use soundness::ended_if;
+pub use soundness::is_ended;
 ghost use mathlib.Core.Path.{_≡_};
 ghost use mathlib.Core.Bool.{false};
 ghost use Rattle.base.specs.Lists.{table};

@@ -17,8 +17,8 @@ ghost use Rattle.process.specs.Want.{isNull};
 ghost use Rattle.lane.specs.State.{standingOf, isEnded, channelOf};
 ghost use Rattle.lane.specs.Sound.{positionSound, channelSound, channelSoundAt, standingZero, channelZero};
 
-// A process in this condition has ended.
-fn is_ended(k: Condition) -> bool
+// A process in this condition has ended. Public for relief too.
+pub fn is_ended(k: Condition) -> bool
     ensures { λ r. ⌜ r ≡ isEnded k ⌝ }
 {
     match k {

@@ -12,6 +12,7 @@ use lib.Dec.{T, eqb, lit<, lit≤}
 use lib.ListN.{length, getD, length-set}
 use lib.IntN.{ℤ}
 use borrow.Author.Tests.{ltb-true, eqb-false}
+use Rattle.process.specs.Changes.{isHalted}
 use Rattle.base.proofs.Conjunction.{both-true}
 use Rattle.network.specs.Code.{register, unnamed, fieldsRight, mayBeLast, standsRight}
 use Rattle.network.specs.declared.Instruction.{Instruction}
@@ -38,14 +39,6 @@ waits Halted = false
 waits WaitEmpty = true
 waits WaitFull = true
 waits Ended = true
-
-abbrev pub halts : Outcome → Bool
-halts Moved = false
-halts (Sent v) = false
-halts Halted = true
-halts WaitEmpty = false
-halts WaitFull = false
-halts Ended = false
 
 -- ---- what stays of a channel
 pub record Kept (h g : Channel) : Type 0 where
@@ -84,8 +77,8 @@ module _ (G E : Process → Type 0) where
 
   module _ (q : Process) (h : Channel) where
     pub data Result : Stepped → Type 0 where
-      still : (o : Outcome) → waits o ≡ true → halts o ≡ false → Result (outcome q h o)
-      went : (x : Process) (g : Channel) (o : Outcome) → waits o ≡ false → halts o ≡ false → G x → Kept h g → Result (outcome x g o)
+      still : (o : Outcome) → waits o ≡ true → isHalted o ≡ false → Result (outcome q h o)
+      went : (x : Process) (g : Channel) (o : Outcome) → waits o ≡ false → isHalted o ≡ false → G x → Kept h g → Result (outcome x g o)
       ended : (x : Process) → E x → Result (outcome x h Halted)
 
     received : (t u : Bool) (x y : Process) → G x → G y → Result (cond t (cond u (outcome y h Moved) (outcome q h WaitEmpty)) (outcome x (getOne h) Moved))
@@ -229,12 +222,12 @@ module _ {q : Process} {h : Channel} where
   registers-kept (went x g o w n y k) = y .registers
   registers-kept (ended x y) = ap length (y .registers)
 
-  condition-kept : {s : Stepped} → Result (Goes q) (Ends q) q h s → halts (s .outcome) ≡ false → s .process .condition ≡ q .condition
+  condition-kept : {s : Stepped} → Result (Goes q) (Ends q) q h s → isHalted (s .outcome) ≡ false → s .process .condition ≡ q .condition
   condition-kept (still o w n) e = refl
   condition-kept (went x g o w n y k) e = y .condition
   condition-kept (ended x y) e = clash e
 
-  end-reached : {s : Stepped} → Result (Goes q) (Ends q) q h s → halts (s .outcome) ≡ true → Ends q (s .process)
+  end-reached : {s : Stepped} → Result (Goes q) (Ends q) q h s → isHalted (s .outcome) ≡ true → Ends q (s .process)
   end-reached (still o w n) e = clash (sym e ∙ n)
   end-reached (went x g o w n y k) e = clash (sym e ∙ n)
   end-reached (ended x y) e = y
@@ -263,10 +256,10 @@ module _ (i : Instruction) (q : Process) (h : Channel) (m : ℤ) (gone : Bool) w
   step-eight e = step-registers ∙ e
 
   -- an end stops or faults the process where it stands; nothing else changes its condition
-  pub step-condition : halts (stepOf i q h m gone .outcome) ≡ false → stepOf i q h m gone .process .condition ≡ q .condition
+  pub step-condition : isHalted (stepOf i q h m gone .outcome) ≡ false → stepOf i q h m gone .process .condition ≡ q .condition
   step-condition = condition-kept (step-result i q h m gone)
 
-  pub step-end : halts (stepOf i q h m gone .outcome) ≡ true → Ends q (stepOf i q h m gone .process)
+  pub step-end : isHalted (stepOf i q h m gone .outcome) ≡ true → Ends q (stepOf i q h m gone .process)
   step-end = end-reached (step-result i q h m gone)
 
 -- ---- the position stays below the count: the last instruction of a process is a stop or a jump, and a jump's target is below the count

@@ -1,7 +1,7 @@
 -- An instruction as the code executes it: the registers of all processes lie in one file, those of this process from a base on, and of these
 -- only register a may change. What the code answers, put on the process, is the step.
 -- Assumes nothing.
-use mathlib.Core.Bool.{Bool, true}
+use mathlib.Core.Bool.{Bool, true, false}
 use mathlib.Core.Path.{_≡_}
 use mathlib.Core.List.{List}
 use Prim.Native.Nat.{ℕ, _+_, _≤_, _<_}
@@ -30,6 +30,15 @@ movesAfter Halted n = counted n
 movesAfter WaitEmpty n = n
 movesAfter WaitFull n = n
 movesAfter Ended n = n
+
+-- the process ended by this step
+abbrev pub isHalted : Outcome → Bool
+isHalted Moved = false
+isHalted (Sent v) = false
+isHalted Halted = true
+isHalted WaitEmpty = false
+isHalted WaitFull = false
+isHalted Ended = false
 
 -- a change put on a process, whose register a it is about
 unfoldable pub changed : Change → ℕ → Process → Stepped

@@ -5,26 +5,13 @@ use crate::Waits;
 use crate::Way;
 use lane::Lane;
 use process::Channel;
-use process::Condition;
 ghost use mathlib.Core.Path.{_≡_};
-ghost use mathlib.Core.Bool.{true, not};
+ghost use mathlib.Core.Bool.{true};
 ghost use Prim.Native.Nat.{ℕ, _<_};
 ghost use lib.ListN.{getD};
-ghost use Rattle.lane.specs.State.{isEnded};
 ghost use Rattle.lane.specs.Sound.{soundOf};
 ghost use Rattle.relief.specs.Waits.{waitOf, pointing, fullWait, waitsAt};
 ghost use Rattle.relief.specs.Parts.{waitingOf, waitAs, way, waitFrom, pointsIn, numberIn};
-
-// A process in this condition has not ended.
-fn live(condition: Condition) -> bool
-    ensures { λ r. ⌜ r ≡ not (isEnded condition) ⌝ }
-{
-    match condition {
-        Condition::Live => true,
-        Condition::Stopped => false,
-        Condition::Faulted => false,
-    }
-}
 
 // How a process waits, live or not, that stands at this opcode, with its channel so and that channel's receiver ended or not: a receive at
 // an empty open channel, a send at a full open one.
@@ -99,7 +86,8 @@ pub fn waits_of(lane: Lane) -> Waits
         let h = lane.channels[c];
         let e = base::wide(net.receiver[c]);
         let gone = lane_sound::ended_if(e, lane.processes[e % 16]);
-        let waiting = waiting_at(i.op, live(condition), h, gone);
+        let ended = lane_sound::is_ended(condition);
+        let waiting = waiting_at(i.op, !ended, h, gone);
         let wait = wait_in(waiting, c as u8, net.sender[c], net.receiver[c], h.capacity);
         ways[p] = Way { waiting };
         points[p] = wait.points;

@@ -14,10 +14,9 @@ use mir.Syntax.{w32}
 use mir.Val.{SFits}
 use mir.Facts.{toZ-ofZ}
 use Rattle.process.specs.declared.Channel.{Channel}
-use Rattle.process.specs.Changes.{changed}
+use Rattle.process.specs.Changes.{changed, isHalted}
 use Rattle.lane.specs.State.{world, processOf}
 use Rattle.lane.specs.Pick.{channelIn, dropFrom, instructionFor, stepFor, unpicked}
-use Rattle.lane_picks.specs.Turn.{isHalted}
 use Rattle.lane.proofs.Shape.{Shaped}
 use Rattle.lane.proofs.SoundLaws.{sound-says}
 use Rattle.lane_picks.proofs.Drop.{drop-is}

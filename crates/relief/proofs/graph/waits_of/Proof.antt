@@ -1,6 +1,7 @@
 -- `relief::graph::waits_of` meets its contract. The loop's invariant: the arrays hold the waits of the processes passed, and 0 beyond them.
 -- Assumes nothing.
 use mathlib.Core.Path.{_≡_, refl, ap, _∙_}
+use mathlib.Core.Bool.{not}
 use Prim.Native.Nat.{_-_, _≤_}
 use native.Mathlib.Omega.{arith}
 use borrow.Author.Needs.{needs}
@@ -45,7 +46,7 @@ fetch-of c = c .before .before .before .before .before .before .before .before
 waiting : (c : tie.After-waiting-at Inv-loop μ-loop) → c .waiting-at .result ≡ waitingFor (turn-of (fetch-of c) .before .before .before .args .t1) (turn-of (fetch-of c) .before .loop .p)
 waiting c =
     waiting-is (turn-of (fetch-of c) .before .before .before .args .t1) _ (simp length-map at (turn-of (fetch-of c) .before .before .before .good .0 .1 .1 .1 .1 .0 .1 .0 .1)) (stands (fetch-of c))
-    (c .before .live .ensures)
+    (ap not (c .before .is-ended .ensures))
     (c .before .before .before .before .before .before .before .channel-of .ensures .0)
     (c .before .before .before .before .wide .ensures)
     (c .before .before .ended-if .ensures)
@@ -104,8 +105,8 @@ element-copy-out-ended-if c = search needs
 ended-if-requires : tie.Need-ended-if-requires Inv-loop μ-loop
 ended-if-requires c κs = search needs
 
-live-requires : tie.Need-live-requires Inv-loop μ-loop
-live-requires c κs = search needs
+is-ended-requires : tie.Need-is-ended-requires Inv-loop μ-loop
+is-ended-requires c κs = search needs
 
 waiting-at-requires : tie.Need-waiting-at-requires Inv-loop μ-loop
 waiting-at-requires c κs = search needs
@@ -185,7 +186,7 @@ waits-of-spec =
     mul-ended-if
     element-copy-out-ended-if
     ended-if-requires
-    live-requires
+    is-ended-requires
     waiting-at-requires
     cast-wait-in
     element-copy-out-wait-in
