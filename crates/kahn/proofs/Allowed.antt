@@ -14,7 +14,7 @@ use Rattle.network.specs.declared.Network.{Network}
 use Rattle.network.specs.declared.Instruction.{Instruction}
 use Rattle.network.specs.Code.{fieldsRight, register, unnamed, target}
 use Rattle.network.specs.Rules.{senderOf, receiverOf, receives, sends}
-use Rattle.base.proofs.Conjunction.{both-true, middle}
+use Rattle.base.proofs.Conjunction.{middle}
 use Rattle.arithmetic.specs.declared.Divided.{Divided}
 use Rattle.arithmetic.specs.declared.Divided.the-variants.{By, Zero}
 use Rattle.arithmetic.specs.Quotient.{quotientOf, remainderOf}

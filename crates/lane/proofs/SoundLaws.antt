@@ -9,10 +9,9 @@ use native.Mathlib.Decide.{decLt}
 use native.Mathlib.Omega.{arith}
 use lib.Dec.{eqb, ltb, leb}
 use lib.IntN.{ℤ, pos, negsuc}
-use lib.ListN.{length, getD, replicate, List·getD-eq-default}
-use Rattle.base.specs.declared.Verdict.the-variants.{Good}
-use Rattle.base.specs.Tests.{need, firstBad, isGood}
-use Rattle.base.proofs.Tests.{each, all, need-true, true-need, each-true, all-true}
+use lib.ListN.{length, getD, List·getD-eq-default}
+use Rattle.base.specs.Tests.{firstBad, isGood}
+use Rattle.base.proofs.Tests.{each, each-true, all-true}
 use Rattle.base.proofs.Lists.{table-at, same-at}
 use Rattle.network.specs.declared.Network.{Network}
 use Rattle.network.specs.Rules.{countOf, senderOf, receiverOf, capacityOf, outside, endRight, endsRight, recordRight, records, recordZero, unusedRecords, passes}

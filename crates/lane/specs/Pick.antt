@@ -94,7 +94,8 @@ unpicked w = record { world = w; moved = 0; last = Ended; channel = 0 }
 abbrev pub progressOf : Ran → List ℤ → Progress
 progressOf r cells = record { world = world (r .lane) cells; moved = r .moved; last = r .last; channel = r .channel }
 
--- ---- rounds of picks: the picks in turn, and again after a round with a move, as often as may follow; how many more might have followed
+-- ---- rounds of picks: the picks in turn, and again after a round with a move, as often as may follow; how many more might have followed. A step on the
+-- way to the driver, whose own definition (`schedule/specs/Drive`) does not cite it
 pub record Rounds : Type 0 where
   pub progress : Progress
   pub left : ℕ

@@ -10,8 +10,8 @@ use lib.Dec.{T, eqb}
 use lib.ListN.{length, getD}
 use Rattle.base.specs.declared.Verdict.{Verdict}
 use Rattle.base.specs.declared.Verdict.the-variants.{Good, Bad}
-use Rattle.base.specs.Tests.{need, inTurn, firstBad, isZero}
-use Rattle.base.proofs.Tests.{both, each, all, need-true, true-need, each-true, all-true}
+use Rattle.base.specs.Tests.{need, inTurn, isZero}
+use Rattle.base.proofs.Tests.{both, each, need-true, each-true, all-true}
 use Rattle.network.specs.declared.Network.{Network}
 use Rattle.network.specs.Rules.{processesRight, channelsRight, records, total, instructions}
 use Rattle.base.proofs.Conjunction.{between-true}

@@ -14,11 +14,11 @@ use Rattle.base.specs.Refusals.{numberOf}
 use Rattle.base.specs.Tests.{need, between}
 use Rattle.base.proofs.Tests.{both, need-true}
 use Rattle.network.specs.declared.Network.{Network}
-use Rattle.network.specs.Rules.{processesRight, channelsRight, slots, total, blocksFor, records, instructions}
+use Rattle.network.specs.Rules.{slots, total, blocksFor, records, instructions}
 use Rattle.base.proofs.Conjunction.{both-true, between-true}
 use Rattle.lane_file.specs.declared.Answer.the-variants.{Accepted, Refused}
 use Rattle.lane_file.specs.declared.Reading.{Reading}
-use Rattle.lane_file.specs.Read.{blocks, networkOf, lengthRight, checks, header, slotsIn, restIn, accepted, refused, unless, answerIn, noNetwork, readOf, resultOf}
+use Rattle.lane_file.specs.Read.{networkOf, lengthRight, checks, header, slotsIn, restIn, accepted, refused, unless, answerIn, noNetwork, readOf, resultOf}
 
 -- ---- 1
 pub record Sized (n : ℕ) : Type 0 where

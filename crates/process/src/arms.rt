@@ -14,7 +14,7 @@ ghost use lib.ListN.{getD};
 ghost use Rattle.arithmetic.specs.Wrap.{sumOf, differenceOf, productOf};
 ghost use Rattle.arithmetic.specs.Quotient.{quotientOf, remainderOf};
 ghost use Rattle.process.specs.Intent.{receive, send, close};
-ghost use Rattle.process.specs.Want.{registerOf, moved, onward, assigned, jumped, stopped, faulted, signed16, isNull, isNegative, divided, wantLive};
+ghost use Rattle.process.specs.Want.{registerOf, onward, assigned, jumped, stopped, faulted, signed16, isNull, isNegative, divided, wantLive};
 ghost use Rattle.process.specs.Execute.{outcome, execute};
 ghost use Rattle.process.specs.Window.{eight};
 ghost use Rattle.process.specs.Changes.{inStance, changed, Means, Steppable};

@@ -3,8 +3,8 @@ mod arms;
 
 use network::Instruction;
 ghost use mathlib.Core.Path.{_≡_};
-ghost use mathlib.Core.Bool.{Bool, true, false};
-ghost use Prim.Native.Nat.{ℕ, _+_, _≤_, _<_};
+ghost use mathlib.Core.Bool.{true};
+ghost use Prim.Native.Nat.{ℕ, _+_, _<_};
 ghost use Rattle.process.specs.Channels.{putOne, getOne, closeOne, emptyOne, enlargeOne};
 ghost use Rattle.process.specs.Want.{counted};
 ghost use Rattle.process.specs.Execute.{stepOf};

@@ -1,7 +1,7 @@
 -- Document 01, "The lane in operation": "A run takes bytes, one per pick, 255 meaning relief, and answers how many picks moved and how many
 -- reliefs enlarged. A byte that names no process gets 8 before the first pick."
 -- Assumes nothing.
-use mathlib.Core.Bool.{Bool, true, false, cond, not, _||_}
+use mathlib.Core.Bool.{Bool, cond, not, _||_}
 use mathlib.Core.List.{List, [], _∷_}
 use Prim.Native.Nat.{ℕ}
 use lib.Dec.{eqb, ltb}

@@ -6,7 +6,7 @@ use borrow.Author.Needs.{needs}
 use borrow.Author.Tests.{not-false}
 use native.Mathlib.Omega.{arith}
 use mathlib.Core.Logic.{⊎-elim}
-use lib.ListN.{length, getD, length-map}
+use lib.ListN.{getD, length-map}
 use Rattle.network.specs.declared.Network.{Network}
 use Rattle.network.specs.Rules.{receiverOf}
 use Rattle.lane.specs.State.{world, endedAt, channelOf}
