@@ -1,4 +1,4 @@
--- Tests that pass: both where their conjunction does, neither where their disjunction does not; a number between two bounds; a verdict.
+-- Tests that pass: together; both where their conjunction does, neither where their disjunction does not; a number between two bounds; a verdict.
 -- Assumes nothing.
 use mathlib.Core.Path.{_≡_, refl, sym, ap, _∙_}
 use mathlib.Core.Bool.{Bool, true, false, _&&_, _||_, false≢true, true≢false}
@@ -7,6 +7,12 @@ use borrow.Author.Tests.{leb-true, le-leb}
 use Rattle.base.specs.declared.Verdict.{Verdict}
 use Rattle.base.specs.declared.Verdict.the-variants.{Good, Bad}
 use Rattle.base.specs.Tests.{isGood, between}
+
+-- tests that pass together are equal
+pub iff : (a b : Bool) → (a ≡ true → b ≡ true) → (b ≡ true → a ≡ true) → a ≡ b
+iff true b f g = sym (f refl)
+iff false true f g = g refl
+iff false false f g = refl
 
 pub both-true : (a b : Bool) → (a && b) ≡ true → (a ≡ true) × (b ≡ true)
 both-true true b e = (refl, e)

@@ -1,7 +1,7 @@
 -- What a list of calls sent, by document 01's words, is what its history has sent.
 -- Assumes nothing.
 use mathlib.Core.Path.{_≡_, refl, sym, ap, _∙_, subst, subst⁻¹}
-use mathlib.Core.Bool.{Bool, true, false, cond, not, _&&_}
+use mathlib.Core.Bool.{Bool, true, false, cond, not, _&&_, and-false}
 use mathlib.Core.Option.{Option, none, some}
 use mathlib.Core.List.{List, [], _∷_, _++_, append-nil, append-assoc}
 use Prim.Native.Nat.{ℕ, _<_}
@@ -51,10 +51,6 @@ no-message l shut c d v s = at (eqb d c) refl
     at : (t : Bool) → eqb d c ≡ t → l ≡ l ++ one (t && not shut) v
     at true e = rw (s (eqb-true d c e)) (sym (append-nil l))
     at false e = sym (append-nil l)
-
-and-false : (t : Bool) → (t && false) ≡ false
-and-false true = refl
-and-false false = refl
 
 module _ (n : Network) (pass : passes n ≡ true) where
   -- ---- one act

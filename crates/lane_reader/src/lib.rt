@@ -186,11 +186,11 @@ fn slots_in(s: &[u8], net: Network) -> Verdict
     requires { ⌜ (5 < length (now s)) × (getD (now s) 5 0 ≤ 8) × (net .processes ≤ 16) ⌝ }
     ensures { λ r. ⌜ r ≡ slotsIn (now (s .entry)) net ⌝ }
 {
-    let v = network::slots(net);
+    let v = network::slots(&net.first, &net.count, net.processes);
     let Verdict::Good = v else {
         return v;
     };
-    let instructions = network::total(net);
+    let instructions = network::total(&net.first, &net.count, net.processes);
     if 1016 < instructions {
         return Verdict::Bad(16);
     }
@@ -309,7 +309,8 @@ fn tested(s: &[u8], net: Network) -> Answer
     if let Verdict::Bad(place) = records {
         return Answer::Refused(Refusal::Record, place);
     }
-    let zero = rest(s, net, network::total(net));
+    let total = network::total(&net.first, &net.count, net.processes);
+    let zero = rest(s, net, total);
     if let Verdict::Bad(place) = zero {
         return Answer::Refused(Refusal::Zero, place);
     }

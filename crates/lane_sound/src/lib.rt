@@ -10,10 +10,11 @@ use process::Condition;
 pub use soundness::ended_if;
 pub use soundness::is_ended;
 ghost use mathlib.Core.Path.{_≡_};
-ghost use mathlib.Core.Bool.{false};
+ghost use mathlib.Core.Bool.{false, _&&_};
+ghost use Prim.Native.Nat.{_≤_};
 ghost use Rattle.base.specs.Lists.{table};
 ghost use Rattle.lane.specs.State.{freshChannel, freshOf};
-ghost use Rattle.lane.specs.Sound.{soundOf};
+ghost use Rattle.lane.specs.Sound.{unusedStandings, unusedRegisters, unusedChannels, soundOf};
 
 // A channel at the start: open and empty, the oldest at place 0.
 fn fresh_channel(capacity: u16) -> Channel
@@ -58,36 +59,62 @@ pub fn fresh(net: Network) -> Lane
     }
 }
 
-// Whether a lane, any value of the record, is sound. The network is tested first, so that each number read is in place.
-pub fn sound(lane: Lane) -> bool
-    ensures { λ r. ⌜ r ≡ soundOf lane ⌝ }
+// Entries beyond those in use are zero.
+fn rest_zero(
+    registers: [i32; 128],
+    processes: [Standing; 16],
+    channels: [Channel; 32],
+    used: usize,
+    inside: usize,
+) -> bool
+    requires { ⌜ used ≤ 16 ⌝ }
+    ensures { λ r. ⌜ ((lane : Lane) → lane .registers ≡ registers → lane .processes ≡ processes → lane .channels ≡ channels → lane .network .processes ≡ used → lane .network .channels ≡ inside → r ≡ (unusedStandings lane && unusedRegisters lane && unusedChannels lane)) ⌝ }
 {
-    let net = lane.network;
-    if !network::passes(net) {
-        return false;
-    }
-    let processes = lane.processes;
-    let Verdict::Good = soundness::positions(&net.count, processes, net.processes) else {
+    let Verdict::Good = soundness::unused_standings(processes, used) else {
         return false;
     };
-    let channels = lane.channels;
-    let Verdict::Good = soundness::channels(
-        &net.sender,
-        &net.receiver,
-        processes,
-        channels,
-        net.channels,
-    ) else {
+    let Verdict::Good = soundness::unused_registers(&registers, used) else {
         return false;
     };
-    let Verdict::Good = soundness::unused_standings(processes, net.processes) else {
-        return false;
-    };
-    let Verdict::Good = soundness::unused_registers(&lane.registers, net.processes) else {
-        return false;
-    };
-    let Verdict::Good = soundness::unused_channels(channels, net.channels) else {
+    let Verdict::Good = soundness::unused_channels(channels, inside) else {
         return false;
     };
     true
+}
+
+// Whether a lane, any value of the record, is sound. The network is tested first, so that each number read is in place. Where all processes are live no
+// channel has an end that has ended, and where all places are in use none has to be zero.
+pub fn sound(lane: Lane) -> bool
+    ensures { λ r. ⌜ r ≡ soundOf lane ⌝ }
+{
+    if !passing::passes(lane.network) {
+        return false;
+    }
+    let used = lane.network.processes;
+    let inside = lane.network.channels;
+    let count = lane.network.count;
+    let processes = lane.processes;
+    let channels = lane.channels;
+    if soundness::all_live(&count, processes, used) {
+        let Verdict::Good = soundness::live_channels(channels, inside) else {
+            return false;
+        };
+    } else {
+        let Verdict::Good = soundness::positions(&count, processes, used) else {
+            return false;
+        };
+        let sender = lane.network.sender;
+        let receiver = lane.network.receiver;
+        let Verdict::Good = soundness::channels(&sender, &receiver, processes, channels, inside)
+        else {
+            return false;
+        };
+    }
+    if used == 16 {
+        if inside == 32 {
+            return true;
+        }
+    }
+    let registers = lane.registers;
+    rest_zero(registers, processes, channels, used, inside)
 }

@@ -7,12 +7,12 @@ use lane::Standing;
 use process::Channel;
 use process::Condition;
 ghost use mathlib.Core.Path.{_≡_};
-ghost use mathlib.Core.Bool.{_&&_};
+ghost use mathlib.Core.Bool.{false, not, _&&_};
 ghost use Prim.Native.Nat.{_-_, _*_, _≤_};
 ghost use lib.Dec.{ltb};
 ghost use lib.IntN.{pos};
 ghost use lib.ListN.{getD};
-ghost use Rattle.base.specs.Tests.{firstBad};
+ghost use Rattle.base.specs.Tests.{firstBad, isGood};
 ghost use Rattle.process.specs.Want.{isNull};
 ghost use Rattle.lane.specs.State.{standingOf, isEnded, channelOf};
 ghost use Rattle.lane.specs.Sound.{positionSound, channelSound, channelSoundAt, standingZero, channelZero};
@@ -178,6 +178,42 @@ pub fn unused_channels(channels: [Channel; 32], used: usize) -> Verdict
     while c < 32 {
         let h = channels[c];
         if !channel_zero(h) {
+            return Verdict::Bad(c);
+        }
+        c += 1;
+    }
+    Verdict::Good
+}
+
+// Each process in use is live, at a position below its count.
+pub fn all_live(count: &[u16; 16], processes: [Standing; 16], used: usize) -> bool
+    requires { ⌜ used ≤ 16 ⌝ }
+    ensures { λ r. ⌜ ((lane : Lane) → lane .network .count ≡ now (count .entry) → lane .processes ≡ processes → r ≡ isGood (firstBad (λ p. positionSound lane p && not (isEnded (standingOf lane p .condition))) 0 used)) ⌝ }
+{
+    let mut p: usize = 0;
+    while p < used {
+        let s = processes[p];
+        if count[p] <= s.position {
+            return false;
+        }
+        let k = s.condition;
+        if is_ended(k) {
+            return false;
+        }
+        p += 1;
+    }
+    true
+}
+
+// The first channel in use that is not sound, where no end of it has ended.
+pub fn live_channels(channels: [Channel; 32], used: usize) -> Verdict
+    requires { ⌜ used ≤ 32 ⌝ }
+    ensures { λ r. ⌜ ((lane : Lane) → lane .channels ≡ channels → r ≡ firstBad (λ c. channelSound false false (channelOf lane c)) 0 used) ⌝ }
+{
+    let mut c: usize = 0;
+    while c < used {
+        let h = channels[c];
+        if !channel_sound(false, false, h) {
             return Verdict::Bad(c);
         }
         c += 1;

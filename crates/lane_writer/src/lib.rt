@@ -151,10 +151,10 @@ fn file(net: Network, buffer: &mut [u8], blocks: u16)
 pub fn write(net: Network, buffer: &mut [u8]) -> Written
     ensures { λ r. ⌜ outcome (wroteOf r) (now (buffer .exit)) ≡ writeOf net (now (buffer .entry)) ⌝ }
 {
-    if !network::passes(net) {
+    if !passing::passes(net) {
         return Written::Denied(Refusal::Unsound);
     }
-    let blocks = (network::total(net) + 126) / 127;
+    let blocks = (network::total(&net.first, &net.count, net.processes) + 126) / 127;
     let size = 512 * (blocks + 1);
     let room = buffer.len();
     if room < size {

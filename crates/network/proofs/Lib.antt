@@ -1,4 +1,5 @@
 pub mod Last
 pub mod Slot
+pub mod Parts
 pub mod Passed
 pub mod Unused

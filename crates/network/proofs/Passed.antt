@@ -36,9 +36,6 @@ unused-good n e =
     let u = both-true (isGood (unusedSlots n)) _ (k .0) in
     (good-is _ (u .0), good-is _ (u .1), good-is _ (k .1))
 
-pub good-unused : (n : Network) → unusedSlots n ≡ Good → unusedRecords n ≡ Good → unusedCode n ≡ Good → unusedZero n ≡ true
-good-unused n a b c = rw (a, b, c)
-
 pub passed : (n : Network) → passes n ≡ true → Passed n
 unfolding passes
 passed n e =

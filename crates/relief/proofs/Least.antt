@@ -10,14 +10,8 @@ use native.Mathlib.Omega.{arith}
 use borrow.Author.Tests.{lt-ltb, ltb-true, ltb-false, eq-eqb, eqb-true, eqb-false, ne-eqb, not-true}
 use lib.Dec.{eqb, ltb}
 use lib.ListN.{length, getD}
-use Rattle.base.proofs.Conjunction.{both-true}
+use Rattle.base.proofs.Conjunction.{iff, both-true}
 use Rattle.relief.specs.Rings.{someBelow, lesser, least}
-
--- ---- tests
-iff : (a b : Bool) → (a ≡ true → b ≡ true) → (b ≡ true → a ≡ true) → a ≡ b
-iff true b f g = sym (f refl)
-iff false true f g = g refl
-iff false false f g = refl
 
 -- a full wait on a channel below a limit
 abbrev pub Below : (ℕ → ℕ) → ℕ → ℕ → Bool

@@ -1,8 +1,9 @@
 -- `lane_reader::tested` meets its contract: each return rewrites by the tests that led there.
 -- Assumes nothing.
-use mathlib.Core.Path.{sym, _∙_}
+use mathlib.Core.Path.{_≡_, refl, sym, _∙_}
 use native.Mathlib.Omega.{arith}
 use borrow.Author.Needs.{needs}
+use Rattle.network.specs.Rules.{total}
 use Rattle.lane_reader.proofs.Answers.{slotted}
 use Rattle.lane_reader.proofs.tested.Statement.{statement}
 use Rattle.lane_reader.proofs.tested.Tie as tie
@@ -36,20 +37,27 @@ enum-told-2 c = search needs
 total-requires : tie.Need-total-requires
 total-requires c κs = search needs
 
+-- the place before the total is asked for
+abbrev recorded : tie.After-total → tie.After-enum-told2
+recorded c = c .before .before .before .before
+
+-- the call's answer is the total of this network
+told : (c : tie.After-total) → c .total .result ≡ total (recorded c .before .before .before .before .before .before .before .args .t2)
+told c = c .total .ensures (recorded c .before .before .before .before .before .before .before .args .t2) refl refl refl
+
 rest-requires : tie.Need-rest-requires
 rest-requires c κs =
-    let b = c .before in
-    let a = b .before .before .before in
+    let a = recorded c .before .before .before in
     let t = a .before .before .before .before in
-    let h = slotted (t .args .s .now) (t .args .net) (t .pre .2) (sym (a .before .before .slots-in .ensures) ∙ a .enum-told .given .1) in
-    (t .pre .0, t .pre .1, omega (arith, h .few, c .total .ensures), c .total .ensures, t .pre .3, t .pre .4)
+    let h = slotted (t .args .s .now) (t .args .t2) (t .pre .2) (sym (a .before .before .slots-in .ensures) ∙ a .enum-told .given .1) in
+    (t .pre .0, t .pre .1, omega (arith, h .few, told c), told c, t .pre .3, t .pre .4)
 
 enum-known-zero : tie.Need-enum-known-zero
 enum-known-zero c = search needs
 
 returns-3 : tie.Need-returns-3
 returns-3 c =
-    let b = c .before .before .before .before .before in
+    let b = recorded (c .before .before .before .before) in
     let a = b .before .before .before in
     simp (← a .before .before .slots-in .ensures, a .enum-told .given .1, ← b .before .before .records .ensures, b .enum-told2 .given .1, ← c .before .before .before .rest .ensures, c .before .zero .given .1)
 
@@ -58,9 +66,9 @@ enum-told-3 c = search needs
 
 instructions-requires : tie.Need-instructions-requires
 instructions-requires c κs =
-    let a = c .before .before .before .before .before .before .before in
+    let a = recorded (c .before .before .before) .before .before .before in
     let t = a .before .before .before .before in
-    let h = slotted (t .args .s .now) (t .args .net) (t .pre .2) (sym (a .before .before .slots-in .ensures) ∙ a .enum-told .given .1) in
+    let h = slotted (t .args .s .now) (t .args .t2) (t .pre .2) (sym (a .before .before .slots-in .ensures) ∙ a .enum-told .given .1) in
     (t .pre .3, t .pre .4, h .good, h .few)
 
 enum-known-instructions : tie.Need-enum-known-instructions
@@ -69,7 +77,7 @@ enum-known-instructions c = search needs
 returns-4 : tie.Need-returns-4
 returns-4 c =
     let d = c .before .before .before .before in
-    let b = d .before .before .before .before in
+    let b = recorded (d .before .before .before) in
     let a = b .before .before .before in
     simp (← a .before .before .slots-in .ensures, a .enum-told .given .1, ← b .before .before .records .ensures, b .enum-told2 .given .1, ← d .before .before .rest .ensures, d .enum-told3 .given .1, ← c .before .before .before .instructions .ensures, c .before .instructions2 .given .1)
 
@@ -79,7 +87,7 @@ enum-told-4 c = search needs
 returns-5 : tie.Need-returns-5
 returns-5 c =
     let d = c .before .before .before in
-    let b = d .before .before .before .before in
+    let b = recorded (d .before .before .before) in
     let a = b .before .before .before in
     simp (← a .before .before .slots-in .ensures, a .enum-told .given .1, ← b .before .before .records .ensures, b .enum-told2 .given .1, ← d .before .before .rest .ensures, d .enum-told3 .given .1, ← c .before .before .instructions .ensures, c .enum-told4 .given .1)
 

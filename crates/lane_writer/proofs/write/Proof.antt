@@ -1,57 +1,73 @@
 -- `lane_writer::write` meets its contract, answer by answer.
 -- Assumes nothing.
-use mathlib.Core.Path.{_≡_, sym, _∙_}
+use mathlib.Core.Path.{_≡_, refl, sym, _∙_}
 use mathlib.Core.Bool.{true, false}
 use Prim.Native.Nat.{_≤_, _<_}
 use native.Mathlib.Omega.{arith}
 use borrow.Author.Needs.{needs}
 use borrow.Author.Tests.{lt-ltb, le-ltb, not-true, not-false}
 use lib.ListN.{length}
-use Rattle.network.specs.Rules.{passes}
+use Rattle.network.specs.declared.Network.{Network}
+use Rattle.network.specs.Rules.{total, passes}
 use Rattle.network.proofs.Passed.{Passed, passed}
 use Rattle.lane_file.specs.File.{sizeOf}
 use Rattle.lane_file.specs.Write.{writeOf}
 use Rattle.lane_writer.proofs.write.Statement.{statement}
 use Rattle.lane_writer.proofs.write.Tie as tie
 
+abbrev net : tie.After-passes → Network
+net c = c .before .before .args .t1
+
 -- where the code goes on the network passes the rules
-holds : (c : tie.Else1) → passes (c .before .before .before .args .net) ≡ true
+holds : (c : tie.Else1) → passes (net (c .before)) ≡ true
 holds c = sym (c .before .passes .ensures) ∙ not-false (c .before .passes .result) (c .if1 .left)
 
-rules : (c : tie.Else1) → Passed (c .before .before .before .args .net)
-rules c = passed (c .before .before .before .args .net) (holds c)
+rules : (c : tie.Else1) → Passed (net (c .before))
+rules c = passed (net (c .before)) (holds c)
 
 passes-requires : tie.Need-passes-requires
 passes-requires c κs = search needs
 
 returns : tie.Need-returns
 unfolding writeOf
-returns c = let h : passes (c .before .before .before .args .net) ≡ false = sym (c .before .passes .ensures) ∙ not-true (c .before .passes .result) (c .if1 .taken) in rw h
+returns c = let h : passes (net (c .before)) ≡ false = sym (c .before .passes .ensures) ∙ not-true (c .before .passes .result) (c .if1 .taken) in rw h
 
 total-requires : tie.Need-total-requires
-total-requires c κs = rules c .processes-high
+total-requires c κs = rules (c .before .before .before) .processes-high
+
+-- the place before the total is asked for, and its answer, which is that of this network
+abbrev ruled : tie.After-total → tie.Else1
+ruled c = c .before .before .before .before
+
+told : (c : tie.After-total) → c .total .result ≡ total (net (ruled c .before))
+told c = c .total .ensures (net (ruled c .before)) refl refl refl
+
+small : (c : tie.After-total) → c .total .result ≤ 1016
+small c = let r = rules (ruled c) in omega (arith, told c)
 
 add-blocks : tie.Need-add-blocks
-add-blocks c = let r = rules (c .before) in omega arith
+add-blocks c = omega (arith, small c)
 
 add-size : tie.Need-add-size
 add-size c = search needs
 
 mul-size : tie.Need-mul-size
-mul-size c = let r = rules (c .before) in omega arith
+mul-size c = omega (arith, small c)
 
 returns-2 : tie.Need-returns-2
 unfolding writeOf
 returns-2 c =
-    let a = c .before .before .before .before .before .args in
-    let short : length (a .buffer .now) < sizeOf (a .net) = omega arith in
-    rw (holds (c .before .before), lt-ltb (length (a .buffer .now)) (sizeOf (a .net)) short)
+    let t = ruled (c .before) in
+    let b = t .before .before .before .args .buffer .now in
+    let n = net (t .before) in
+    let short : length b < sizeOf n = omega (arith, told (c .before)) in
+    rw (holds t, lt-ltb (length b) (sizeOf n) short)
 
 cast-file : tie.Need-cast-file
-cast-file c = let r = rules (c .before .before .before) in omega arith
+cast-file c = omega (arith, small (c .before .before))
 
 file-requires : tie.Need-file-requires
-file-requires c κs = let r = rules (c .before .before .before) in omega arith
+file-requires c κs = let r = rules (ruled (c .before .before)) in omega (arith, told (c .before .before))
 
 same-length : tie.Need-same-length
 same-length c = search needs
@@ -59,9 +75,13 @@ same-length c = search needs
 returns-3 : tie.Need-returns-3
 unfolding writeOf
 returns-3 c =
-    let a = c .before .before .before .before .before .before .before .before .before .args in
-    let enough : sizeOf (a .net) ≤ length (a .buffer .now) = omega arith in
-    rw (holds (c .before .before .before .before .before .before), le-ltb (length (a .buffer .now)) (sizeOf (a .net)) enough, c .before .before .before .before .before .total .ensures, c .before .before .file .ensures)
+    let f = c .before .before in
+    let a = f .before .before .before in
+    let t = ruled a in
+    let b = t .before .before .before .args .buffer .now in
+    let n = net (t .before) in
+    let enough : sizeOf n ≤ length b = omega (arith, told a) in
+    rw (holds t, le-ltb (length b) (sizeOf n) enough, told a, f .file .ensures)
 
 pub write-spec : {M : Type 1} → statement M
 write-spec =

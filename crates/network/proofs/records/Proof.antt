@@ -12,35 +12,29 @@ use Rattle.network.proofs.records.Statement.{statement}
 use Rattle.network.proofs.records.Tie as tie
 
 abbrev Inv-loop : tie.InvT-loop
-Inv-loop net c₀ c = firstBad (recordRight net) c (net .channels - c) ≡ records net
+Inv-loop net processes c₀ c = firstBad (recordRight net) c (net .channels - c) ≡ records net
 
 abbrev μ-loop : tie.MeasureT-loop
-μ-loop net c₀ c = net .channels - c
+μ-loop net processes c₀ c = net .channels - c
+
+cast-processes : tie.Need-cast-processes Inv-loop μ-loop
+cast-processes c = search needs
 
 loop-holds : tie.Need-loop-holds Inv-loop μ-loop
 unfolding records
 loop-holds c = ap (firstBad (recordRight (c .args .t1)) 0) (omega arith)
 
-element-copy-out-sender : tie.Need-element-copy-out-sender Inv-loop μ-loop
-element-copy-out-sender c = search needs
+element-copy-out-record-right : tie.Need-element-copy-out-record-right Inv-loop μ-loop
+element-copy-out-record-right c = search needs
 
-cast-sender : tie.Need-cast-sender Inv-loop μ-loop
-cast-sender c = search needs
+element-copy-out-record-right-2 : tie.Need-element-copy-out-record-right-2 Inv-loop μ-loop
+element-copy-out-record-right-2 c = search needs
 
-element-copy-out-receiver : tie.Need-element-copy-out-receiver Inv-loop μ-loop
-element-copy-out-receiver c = search needs
+mul-record-right : tie.Need-mul-record-right Inv-loop μ-loop
+mul-record-right c = search needs
 
-cast-receiver : tie.Need-cast-receiver Inv-loop μ-loop
-cast-receiver c = search needs
-
-mul-capacity : tie.Need-mul-capacity Inv-loop μ-loop
-mul-capacity c = search needs
-
-element-copy-out-capacity : tie.Need-element-copy-out-capacity Inv-loop μ-loop
-element-copy-out-capacity c = search needs
-
-cast-capacity : tie.Need-cast-capacity Inv-loop μ-loop
-cast-capacity c = search needs
+element-copy-out-record-right-3 : tie.Need-element-copy-out-record-right-3 Inv-loop μ-loop
+element-copy-out-record-right-3 c = search needs
 
 record-right-requires : tie.Need-record-right-requires Inv-loop μ-loop
 record-right-requires c κs = search needs
@@ -77,14 +71,12 @@ records-spec =
     (tie.spec
     Inv-loop
     μ-loop
+    cast-processes
     loop-holds
-    element-copy-out-sender
-    cast-sender
-    element-copy-out-receiver
-    cast-receiver
-    mul-capacity
-    element-copy-out-capacity
-    cast-capacity
+    element-copy-out-record-right
+    element-copy-out-record-right-2
+    mul-record-right
+    element-copy-out-record-right-3
     record-right-requires
     returns
     add-c

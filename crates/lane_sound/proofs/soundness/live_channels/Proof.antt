@@ -1,0 +1,66 @@
+-- `lane_sound::soundness::live_channels` meets its contract. The loop's invariant: the channels that are left give the answer of all of them.
+-- Assumes nothing.
+use mathlib.Core.Path.{_≡_, sym, ap, _∙_}
+use mathlib.Core.Bool.{Bool, false}
+use mathlib.Core.List.{List}
+use Prim.Native.Nat.{ℕ, _-_}
+use lib.ListN.{getD}
+use borrow.Author.Needs.{needs}
+use native.Mathlib.Omega.{arith}
+use Rattle.base.specs.Tests.{need, firstBad}
+use Rattle.base.proofs.Tests.{on, stop, over}
+use borrow.Author.Tests.{not-true, not-false}
+use Rattle.process.specs.declared.Channel.{Channel}
+use Rattle.process.specs.Channels.{noChannel}
+use Rattle.lane.specs.Sound.{channelSound}
+use Rattle.lane_sound.proofs.soundness.live_channels.Statement.{statement}
+use Rattle.lane_sound.proofs.soundness.live_channels.Tie as tie
+
+-- the test of a channel, by the array that was handed over
+abbrev right : List Channel → ℕ → Bool
+right channels c = channelSound false false (getD channels c noChannel)
+
+abbrev Inv-loop : tie.InvT-loop
+Inv-loop used channels c₀ c = firstBad (right channels) c (used - c) ≡ firstBad (right channels) 0 used
+
+abbrev μ-loop : tie.MeasureT-loop
+μ-loop used channels c₀ c = used - c
+
+loop-holds : tie.Need-loop-holds Inv-loop μ-loop
+loop-holds c = ap (firstBad (right (c .args .t1)) 0) (omega arith)
+
+mul-h : tie.Need-mul-h Inv-loop μ-loop
+mul-h c = search needs
+
+array-copy-out-h : tie.Need-array-copy-out-h Inv-loop μ-loop
+array-copy-out-h c = search needs
+
+channel-sound-requires : tie.Need-channel-sound-requires Inv-loop μ-loop
+channel-sound-requires c κs = search needs
+
+returns : tie.Need-returns Inv-loop μ-loop
+returns c lane e =
+    let l = c .before .before .before .before .loop in
+    let a = c .before .before .before .before .before .args in
+    rw e (sym (stop (λ k. need (right (a .t1) k) k) (l .c) (a .used) (l .c) (omega arith) (rw (sym (c .before .channel-sound .ensures) ∙ not-true _ (c .if1 .taken)))) ∙ l .inv)
+
+add-c : tie.Need-add-c Inv-loop μ-loop
+add-c c = search needs
+
+loop-less : tie.Need-loop-less Inv-loop μ-loop
+loop-less c = search needs
+
+loop-again : tie.Need-loop-again Inv-loop μ-loop
+loop-again c =
+    let l = c .before .before .before .before .loop in
+    let a = c .before .before .before .before .before .args in
+    on (λ k. need (right (a .t1) k) k) (l .c) (a .used) (omega arith) (rw (sym (c .before .channel-sound .ensures) ∙ not-false _ (c .if1 .left))) ∙ l .inv
+
+returns-2 : tie.Need-returns-2 Inv-loop μ-loop
+returns-2 c lane e =
+    let l = c .before .loop in
+    let a = c .before .before .args in
+    rw e (sym (over (λ k. need (right (a .t1) k) k) (l .c) (a .used) (omega arith)) ∙ l .inv)
+
+pub live-channels-spec : {M : Type 1} → statement M
+live-channels-spec = tie.close (tie.spec Inv-loop μ-loop loop-holds mul-h array-copy-out-h channel-sound-requires returns add-c loop-less loop-again returns-2)

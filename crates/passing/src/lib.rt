@@ -1,0 +1,174 @@
+// Whether a network, any value of the record, passes the file's rules: one answer, quickly, for the soundness of a lane and for the writer. The reader,
+// which names the place of what is wrong, has the tests in `network`.
+mod sums;
+mod words;
+
+use base::Verdict;
+use network::Network;
+ghost use mathlib.Core.Path.{_≡_};
+ghost use mathlib.Core.Bool.{cond};
+ghost use Prim.Native.Nat.{ℕ, _≤_, _<_};
+ghost use lib.ListN.{length, getD};
+ghost use Rattle.base.specs.Tests.{isGood};
+ghost use Rattle.network.specs.Rules.{records, instructions, unusedSlots, unusedRecords, passes};
+ghost use Rattle.passing.specs.Words.{Placed};
+
+// 1 unless it is so.
+fn unless(right: bool) -> u8
+    ensures { λ r. ⌜ r ≡ cond right 0 1 ⌝ }
+{
+    if right {
+        return 0;
+    }
+    1
+}
+
+// All channel records are right. Each is looked at, right or wrong, so that the compiler can look at several at once.
+fn records_right<'a>(
+    sender: &'a [u8; 32],
+    receiver: &'a [u8; 32],
+    capacity: &'a [u16; 32],
+    channels: usize,
+    processes: u8,
+) -> bool
+    requires { ⌜ channels ≤ 32 ⌝ }
+    ensures { λ r. ⌜ ((net : Network) → net .sender ≡ now (sender .entry) → net .receiver ≡ now (receiver .entry) → net .capacity ≡ now (capacity .entry) → net .channels ≡ channels → net .processes ≡ processes → r ≡ isGood (records net)) ⌝ }
+{
+    let mut wrong: u8 = 0;
+    let mut c: usize = 0;
+    while c < channels {
+        wrong = wrong
+            | unless(network::record_right(sender[c], receiver[c], capacity[c], processes));
+        c += 1;
+    }
+    wrong == 0
+}
+
+// Slots beyond the processes are zero.
+fn unused_slots<'a>(first: &'a [u16; 16], count: &'a [u16; 16], processes: usize) -> Verdict
+    requires { ⌜ processes ≤ 16 ⌝ }
+    ensures { λ r. ⌜ ((net : Network) → net .first ≡ now (first .entry) → net .count ≡ now (count .entry) → net .processes ≡ processes → r ≡ unusedSlots net) ⌝ }
+{
+    let mut p = processes;
+    while p < 16 {
+        if first[p] != 0 {
+            return Verdict::Bad(p);
+        }
+        if count[p] != 0 {
+            return Verdict::Bad(p);
+        }
+        p += 1;
+    }
+    Verdict::Good
+}
+
+// Records beyond the channels are zero.
+fn unused_records<'a>(
+    sender: &'a [u8; 32],
+    receiver: &'a [u8; 32],
+    capacity: &'a [u16; 32],
+    channels: usize,
+) -> Verdict
+    requires { ⌜ channels ≤ 32 ⌝ }
+    ensures { λ r. ⌜ ((net : Network) → net .sender ≡ now (sender .entry) → net .receiver ≡ now (receiver .entry) → net .capacity ≡ now (capacity .entry) → net .channels ≡ channels → r ≡ unusedRecords net) ⌝ }
+{
+    let mut c = channels;
+    while c < 32 {
+        if sender[c] != 0 {
+            return Verdict::Bad(c);
+        }
+        if receiver[c] != 0 {
+            return Verdict::Bad(c);
+        }
+        if capacity[c] != 0 {
+            return Verdict::Bad(c);
+        }
+        c += 1;
+    }
+    Verdict::Good
+}
+
+// The byte at a place of a code. Who has the code by a reference to an array learns from this that all of it are bytes, below 256.
+fn opcode_at(code: &[u8], at: usize) -> u8
+    requires { ⌜ at < length (now code) ⌝ }
+    ensures { λ r. ⌜ (r ≡ getD (now (code .entry)) at 0) × ((k : ℕ) → getD (now (code .entry)) k 0 < 256) ⌝ }
+{
+    code[at]
+}
+
+// Whether all instructions are right, and each process's last one is a stop or a jump. The slots have been tested.
+fn code_right<'a>(
+    code: &'a [u8; 4064],
+    first: &'a [u16; 16],
+    count: &'a [u16; 16],
+    processes: usize,
+    receiver: &'a [u8; 32],
+    sender: &'a [u8; 32],
+    channels: usize,
+) -> bool
+    requires { ⌜ (processes ≤ 16) × (channels ≤ 32) × Placed (now first) (now count) processes ⌝ }
+    ensures { λ r. ⌜ ((net : Network) → net .code ≡ now (code .entry) → net .first ≡ now (first .entry) → net .count ≡ now (count .entry) → net .processes ≡ processes → net .receiver ≡ now (receiver .entry) → net .sender ≡ now (sender .entry) → net .channels ≡ channels → r ≡ isGood (instructions net)) ⌝ }
+{
+    let mut ends = [0u64; 256];
+    words::plain_words(&mut ends);
+    words::channel_words(&mut ends, receiver, sender, channels);
+    let mut opcodes = [72340172838076673u64; 256];
+    words::opcode_words(&mut opcodes);
+    let mut all: u64 = 0;
+    let mut last: u8 = 0;
+    let mut mine: u64 = 31;
+    let mut p: usize = 0;
+    while p < processes {
+        let start = first[p] as usize;
+        let n = count[p] as usize;
+        words::set_words(&mut opcodes, n as u64, mine);
+        all = all | sums::run(code, &opcodes, &ends, start, n);
+        let end = start + n;
+        last = last | opcode_at(code, 4 * end - 4);
+        mine += 131071;
+        p += 1;
+    }
+    all & 108368145210736672 == 0 && last & 247 == 0
+}
+
+// Whether a network passes the file's rules. The numbers of processes and channels and the slots are tested first, so that each place read is there.
+pub fn passes(net: Network) -> bool
+    ensures { λ r. ⌜ r ≡ passes net ⌝ }
+{
+    let p = net.processes;
+    if p < 1 || 16 < p {
+        return false;
+    }
+    let c = net.channels;
+    if c < 1 || 32 < c {
+        return false;
+    }
+    let Verdict::Good = network::slots(&net.first, &net.count, p) else {
+        return false;
+    };
+    let total = network::total(&net.first, &net.count, p);
+    if 1016 < total {
+        return false;
+    }
+    if !records_right(&net.sender, &net.receiver, &net.capacity, c, p as u8) {
+        return false;
+    }
+    let Verdict::Good = unused_slots(&net.first, &net.count, p) else {
+        return false;
+    };
+    let Verdict::Good = unused_records(&net.sender, &net.receiver, &net.capacity, c) else {
+        return false;
+    };
+    let Verdict::Good = base::zeros(&net.code, 4 * total, 4064) else {
+        return false;
+    };
+    code_right(
+        &net.code,
+        &net.first,
+        &net.count,
+        p,
+        &net.receiver,
+        &net.sender,
+        c,
+    )
+}
