@@ -4,7 +4,7 @@
 use mathlib.Core.Path.{_≡_, refl, _∙_}
 use mathlib.Core.Bool.{Bool, true, false, cond, not, _&&_, true≢false, false≢true}
 use mathlib.Core.List.{List, []}
-use Prim.Native.Nat.{ℕ, zero, suc}
+use Prim.Native.Nat.{ℕ, suc}
 use native.Mathlib.Omega.{arith}
 use borrow.Author.Tests.{eqb-true, ne-eqb}
 use lib.Dec.{eqb, ltb}
@@ -15,6 +15,7 @@ use Rattle.network.specs.declared.Instruction.{Instruction}
 use Rattle.network.specs.Code.{fieldsRight, register, unnamed, target}
 use Rattle.network.specs.Rules.{senderOf, receiverOf, receives, sends}
 use Rattle.base.proofs.Conjunction.{middle}
+use Rattle.base.proofs.Numbers.{each-one}
 use Rattle.arithmetic.specs.declared.Divided.{Divided}
 use Rattle.arithmetic.specs.declared.Divided.the-variants.{By, Zero}
 use Rattle.arithmetic.specs.Quotient.{quotientOf, remainderOf}
@@ -27,16 +28,6 @@ use Rattle.lane.specs.State.{isEnded}
 use Rattle.kahn.specs.Calls.{one}
 use Rattle.kahn.proofs.Unbounded.{Owns}
 use Rattle.kahn.proofs.Bounded.{Ends}
-
--- ---- the numbers below n one by one, and all the others
-abbrev Below : (ℕ → Type 0) → ℕ → Type 0
-Below F zero = (k : ℕ) → F k
-Below F (suc n) = F 0 × Below (λ k. F (suc k)) n
-
-each-one : (F : ℕ → Type 0) (n : ℕ) → Below F n → (k : ℕ) → F k
-each-one F zero t k = t k
-each-one F (suc n) t zero = t .0
-each-one F (suc n) t (suc k) = each-one (λ j. F (suc j)) n (t .1) k
 
 -- instruction i with another opcode
 abbrev with : Instruction → ℕ → Instruction

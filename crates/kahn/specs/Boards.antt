@@ -11,7 +11,7 @@ use Rattle.network.specs.declared.Network.{Network}
 use Rattle.lane.specs.State.{World, world, processOf, freshOf}
 use Rattle.lane.specs.Calls.{Told, moved, waitingEmpty, waitingFull, ended, accepted, value, theEnd, refused, pickOf}
 use Rattle.kahn.specs.Plain.{Plain, withoutCapacities, fromOutside, plainAfter}
-use Rattle.kahn.specs.Calls.{Call, close, apply, after, closesBy, fed, taken, sent, movedIn}
+use Rattle.kahn.specs.Calls.{Call, close, after, closesBy, fed, taken, sent, movedIn}
 
 -- "a beginning may be none or all"
 pub record Prefix {A : Type 0} (xs ys : List A) : Type 0 where

@@ -1,12 +1,10 @@
 -- Document 01, "Lists of calls": calls with any arguments and buffers, each on what the last one left, refused or not.
 -- Assumes nothing.
-use mathlib.Core.Path.{_≡_}
 use mathlib.Core.Bool.{Bool, true, false, cond, not, _&&_}
 use mathlib.Core.List.{List, [], _∷_, _++_}
 use Prim.Native.Nat.{ℕ, _+_}
 use lib.Dec.{eqb}
 use lib.IntN.{ℤ}
-use Rattle.process.specs.Process.{Process}
 use Rattle.process.specs.Want.{registerOf}
 use Rattle.lane.specs.State.{World, world, processOf, channelOf}
 use Rattle.lane.specs.Pick.{instructionFor}

@@ -1,6 +1,6 @@
 -- Document 01, "The plain order": the processes in turn, one instruction each, channels unlimited. (A round-robin schedule of the unbounded network.)
 -- Assumes nothing.
-use mathlib.Core.Bool.{Bool, true, false, cond, _&&_, _||_}
+use mathlib.Core.Bool.{Bool, true, cond, _&&_, _||_}
 use mathlib.Core.List.{List, [], _∷_, _++_}
 use Prim.Native.Nat.{ℕ, zero, suc, _+_}
 use lib.Dec.{eqb, ltb}

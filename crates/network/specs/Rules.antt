@@ -1,6 +1,6 @@
 -- Document 01, "The lane file": when a network passes the file's rules. The reader's refusals 3 to 7 and the test of a network cite these.
 -- Assumes nothing.
-use mathlib.Core.Bool.{Bool, true, false, cond, not, _&&_, _||_}
+use mathlib.Core.Bool.{Bool, cond, not, _&&_, _||_}
 use Prim.Native.Nat.{ℕ, _+_, _-_, _*_, _/_}
 use lib.Dec.{eqb, ltb, leb}
 use lib.ListN.{getD}

@@ -42,15 +42,12 @@ and-or m x y =
     x m y
 
 -- ---- an `or` is zero where both are
-or-zero : (a b : ℕ) → eqb (bitOr a b) 0 ≡ (eqb a 0 && eqb b 0)
+pub or-zero : (a b : ℕ) → eqb (bitOr a b) 0 ≡ (eqb a 0 && eqb b 0)
 or-zero a b = go (ℕ-discrete a 0)
   where
     go : Dec (a ≡ 0) → eqb (bitOr a b) 0 ≡ (eqb a 0 && eqb b 0)
     go (yes p) = rw p
     go (no p) = rw (ne-eqb a 0 p) (ne-eqb (bitOr a b) 0 (λ e. p (omega (arith, or-add-and a b, and-le-r a b))))
-
-pub clean-zero : (mask : ℕ) → clean mask 0 ≡ true
-clean-zero mask = refl
 
 pub clean-or : (mask x y : ℕ) → clean mask (bitOr x y) ≡ (clean mask x && clean mask y)
 clean-or mask x y = ap (λ (n : ℕ). eqb n 0) (and-or mask x y) ∙ or-zero (bitAnd x mask) (bitAnd y mask)

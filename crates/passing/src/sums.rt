@@ -24,7 +24,8 @@ fn weigh(code: &[u8; 4064], i: usize) -> u64
     low + 65536 * byte(code[at + 2]) + 16777216 * byte(code[at + 3])
 }
 
-// Instruction i with what the tables add. Its opcode and its field b are read before it is weighed, which spares the compiler an instruction.
+// Instruction i with what the tables add. That its opcode and its field b are read before it is weighed spares two instructions each time, and that the
+// words are added to its weight, and not it to them, one (docs/PERFORMANCE.md).
 fn sum<'a>(code: &'a [u8; 4064], opcodes: &'a [u64; 256], channels: &'a [u64; 256], i: usize) -> u64
     requires { ⌜ (i < 1016) × Small (now opcodes) × Small (now channels) ⌝ }
     ensures { λ r. ⌜ r ≡ sumAt (now (code .entry)) (now (opcodes .entry)) (now (channels .entry)) i ⌝ }

@@ -3,11 +3,12 @@
 -- Assumes nothing.
 use mathlib.Core.Path.{_≡_, refl}
 use mathlib.Core.Bool.{Bool, true, false, cond, false≢true}
-use Prim.Native.Nat.{ℕ, zero, suc}
+use Prim.Native.Nat.{ℕ}
 use borrow.Author.Tests.{eqb-false}
 use lib.Dec.{eqb}
 use lib.IntN.{ℤ}
 use Rattle.base.proofs.Conjunction.{middle}
+use Rattle.base.proofs.Numbers.{each-one}
 use Rattle.network.specs.declared.Instruction.{Instruction}
 use Rattle.network.specs.Code.{fieldsRight, register, unnamed, target}
 use Rattle.arithmetic.specs.declared.Divided.{Divided}
@@ -31,16 +32,6 @@ AtEnd receives sends (receive b next over) = receives ≡ true
 AtEnd receives sends (send b v next fault) = sends ≡ true
 AtEnd receives sends (close b next fault) = sends ≡ true
 AtEnd receives sends (halt x) = Unit {0}
-
--- numbers below n one by one, and all the others
-abbrev Below : (ℕ → Type 0) → ℕ → Type 0
-Below P zero = (k : ℕ) → P k
-Below P (suc n) = P 0 × Below (λ k. P (suc k)) n
-
-each-one : (P : ℕ → Type 0) (n : ℕ) → Below P n → (k : ℕ) → P k
-each-one P zero t k = t k
-each-one P (suc n) t zero = t .0
-each-one P (suc n) t (suc k) = each-one (λ j. P (suc j)) n (t .1) k
 
 module _ (count : ℕ) (receives sends : Bool) (q : Process) where
   divided-at-end : (r : ℕ) (d : Divided) → AtEnd receives sends (divided r d q)

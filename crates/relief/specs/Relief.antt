@@ -1,6 +1,6 @@
 -- Document 01, "Relief" and "Refusal table", 13 to 16: what relief answers, and what it leaves of the lane and the lent buffer.
 -- Assumes nothing.
-use mathlib.Core.Bool.{Bool, true, false, cond, not}
+use mathlib.Core.Bool.{cond, not}
 use mathlib.Core.List.{List, _++_}
 use Prim.Native.Nat.{ℕ}
 use lib.Dec.{ltb}

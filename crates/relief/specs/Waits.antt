@@ -1,6 +1,6 @@
 -- Document 01, "Relief": who waits for whom. The wait-for graph of a lane.
 -- Assumes nothing.
-use mathlib.Core.Bool.{Bool, true, false, cond}
+use mathlib.Core.Bool.{cond}
 use mathlib.Core.List.{[]}
 use Prim.Native.Nat.{ℕ}
 use lib.Dec.{ltb}
