@@ -112,7 +112,7 @@ fn code_right<'a>(
     let mut ends = [0u64; 256];
     words::plain_words(&mut ends);
     words::channel_words(&mut ends, receiver, sender, channels);
-    let mut opcodes = [72340172838076673u64; 256];
+    let mut opcodes = [0x0101010101010101u64; 256];
     words::opcode_words(&mut opcodes);
     let mut all: u64 = 0;
     let mut last: u8 = 0;
@@ -125,10 +125,10 @@ fn code_right<'a>(
         all = all | sums::run(code, &opcodes, &ends, start, n);
         let end = start + n;
         last = last | opcode_at(code, 4 * end - 4);
-        mine += 131071;
+        mine += 0x1FFFF;
         p += 1;
     }
-    all & 108368145210736672 == 0 && last & 247 == 0
+    all & 0x0181004100410020 == 0 && last & 247 == 0
 }
 
 // Whether a network passes the file's rules. The numbers of processes and channels and the slots are tested first, so that each place read is there.

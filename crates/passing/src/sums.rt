@@ -17,11 +17,11 @@ fn byte(x: u8) -> u64
 // Instruction i as one number.
 fn weigh(code: &[u8; 4064], i: usize) -> u64
     requires { ⌜ i < 1016 ⌝ }
-    ensures { λ r. ⌜ (r ≡ weighed (instructionAt (now (code .entry)) i)) × (r < 4294967296) ⌝ }
+    ensures { λ r. ⌜ (r ≡ weighed (instructionAt (now (code .entry)) i)) × (r < 0x100000000) ⌝ }
 {
     let at = 4 * i;
     let low = byte(code[at]) + 256 * byte(code[at + 1]);
-    low + 65536 * byte(code[at + 2]) + 16777216 * byte(code[at + 3])
+    low + 0x10000 * byte(code[at + 2]) + 0x1000000 * byte(code[at + 3])
 }
 
 // Instruction i with what the tables add. That its opcode and its field b are read before it is weighed spares two instructions each time, and that the

@@ -1,5 +1,5 @@
 // The two tables of words that are added to an instruction, by its opcode and by its field b (specs/Words.antt). They are made in place, which spares
-// two copies of each. Public for the test of a code.
+// a copy of each. Public for the test of a code.
 ghost use mathlib.Core.Path.{_≡_};
 ghost use Prim.Native.Nat.{ℕ, _-_, _≤_, _<_};
 ghost use lib.ListN.{replicate};
@@ -24,11 +24,11 @@ pub fn plain_words(words: &mut [u64; 256])
     ensures { λ _. ⌜ now (words .exit) ≡ table 256 plainWord ⌝ }
 {
     whole(words);
-    let mut word: u64 = 266287972383;
+    let mut word: u64 = 0x3E0000001F;
     let mut b: usize = 0;
     while b < 256 {
         words[b] = word;
-        word += 1099511562240;
+        word += 0xFFFFFF0000;
         b += 1;
     }
 }
@@ -45,8 +45,8 @@ pub fn channel_words<'a>(
 {
     let mut b: usize = 0;
     while b < channels {
-        let more = below(receiver[b]) + 8589934592 * below(sender[b]);
-        words[b] = words[b] + 131071 * more;
+        let more = below(receiver[b]) + 0x200000000 * below(sender[b]);
+        words[b] = words[b] + 0x1FFFF * more;
         b += 1;
     }
 }
@@ -56,7 +56,7 @@ fn room(a: u64, b: u64, c: u64) -> u64
     requires { ⌜ (a ≤ 256) × (b ≤ 256) × (c ≤ 256) ⌝ }
     ensures { λ r. ⌜ r ≡ room a b c ⌝ }
 {
-    256 * a + 16777216 * c + 1099511627776 * b
+    256 * a + 0x1000000 * c + 0x10000000000 * b
 }
 
 // What is added for each opcode, but for those whose limits differ from process to process.
@@ -74,14 +74,14 @@ pub fn opcode_words(words: &mut [u64; 256])
     words[7] = room(248, 248, 248) - 7;
 }
 
-// The others, 8 to 13, for a process with so many instructions; `mine` tells the channels at which it stands.
+// The others, 8 to 13, for a process with so many instructions; `mine` is the process, as a channel's ends are compared with it.
 pub fn set_words(words: &mut [u64; 256], count: u64, mine: u64)
-    requires { ⌜ Steady (now words) × (count ≤ 256) × (mine < 4194304) ⌝ }
+    requires { ⌜ Steady (now words) × (count ≤ 256) × (mine < 0x400000) ⌝ }
     ensures { λ _. ⌜ ((p : ℕ) → mine ≡ half (31 - p) → now (words .exit) ≡ table 256 (opcodeWord count p)) ⌝ }
 {
     whole(words);
     let target = 256 - count;
-    let out = 8589934592 * mine;
+    let out = 0x200000000 * mine;
     words[8] = room(255, 255, target) - 8;
     words[9] = room(248, 255, target) - 9;
     words[10] = room(248, 255, target) - 10;
