@@ -1,6 +1,7 @@
 // What the crates above share: the refusals of document 01 with their numbers, and tests made in order,
 // whose answer is the first place that fails.
 ghost use mathlib.Core.Path.{_≡_};
+ghost use mathlib.Core.Bool.{cond};
 ghost use Prim.Native.Nat.{_-_, _≤_};
 ghost use lib.ListN.{length};
 ghost use Rattle.base.specs.Refusals.{numberOf};
@@ -63,6 +64,16 @@ pub fn wide(x: u8) -> usize
     ensures { λ r. ⌜ r ≡ x ⌝ }
 {
     x as usize
+}
+
+// 1 unless it is so. Tests that are all made, right or wrong, lay these over one another: the compiler can then make several at once.
+pub fn unless(right: bool) -> u8
+    ensures { λ r. ⌜ r ≡ cond right 0 1 ⌝ }
+{
+    if right {
+        return 0;
+    }
+    1
 }
 
 // The first byte from a on and before e that is not zero. Public for the crates above, which look only inside their slices.

@@ -3,7 +3,7 @@
 -- over one another, are the answer of both.
 -- Assumes nothing.
 use mathlib.Core.Path.{_≡_, refl, sym, ap, ap₂, _∙_}
-use mathlib.Core.Bool.{Bool, true, false, _&&_}
+use mathlib.Core.Bool.{Bool, true, false, cond, _&&_}
 use Prim.Native.Nat.{ℕ, zero, suc, _+_, _-_, _*_, _/_, _%_, _≤_, min, max}
 use native.Mathlib.Decide.{ℕ-discrete}
 use native.Mathlib.Nat.{zero-min, min-zero, zero-max, max-zero, suc-min-suc, suc-max-suc, min-le-left, max-le, zero-add, suc-add, add-zero}
@@ -71,6 +71,17 @@ need-good false k = refl
 pub good-one : (test : ℕ → Bool) (i : ℕ) → isGood (firstBad test i 1) ≡ test i
 unfolding inTurn
 good-one test i = need-good (test i) i
+
+-- tests that are all made, n from a start on and then the one at i: what each leaves is laid over the rest, and all is zero exactly where all passed
+pub one-on : (test : ℕ → Bool) (start n i all x : ℕ) → start + n ≡ i → eqb all 0 ≡ isGood (firstBad test start n) → eqb x 0 ≡ test i →
+    eqb (bitOr all x) 0 ≡ isGood (firstBad test start (n + 1))
+one-on test start n i all x e p q =
+    or-zero all x ∙ ap₂ _&&_ p (q ∙ sym (good-one test i) ∙ ap (λ (k : ℕ). isGood (firstBad test k 1)) (sym e)) ∙ sym (good-join test start n 1)
+
+-- what `base::unless` leaves
+pub unless-zero : (right : Bool) → eqb (cond right 0 1) 0 ≡ right
+unless-zero true = refl
+unless-zero false = refl
 
 -- x has the answer of the n tests from i on
 abbrev pub Tells : ℕ → (ℕ → Bool) → ℕ → ℕ → ℕ → Type 0

@@ -6,22 +6,11 @@ mod words;
 use base::Verdict;
 use network::Network;
 ghost use mathlib.Core.Path.{_≡_};
-ghost use mathlib.Core.Bool.{cond};
 ghost use Prim.Native.Nat.{ℕ, _≤_, _<_};
 ghost use lib.ListN.{length, getD};
 ghost use Rattle.base.specs.Tests.{isGood};
 ghost use Rattle.network.specs.Rules.{records, instructions, unusedSlots, unusedRecords, passes};
 ghost use Rattle.passing.specs.Words.{Placed};
-
-// 1 unless it is so.
-fn unless(right: bool) -> u8
-    ensures { λ r. ⌜ r ≡ cond right 0 1 ⌝ }
-{
-    if right {
-        return 0;
-    }
-    1
-}
 
 // All channel records are right. Each is looked at, right or wrong, so that the compiler can look at several at once.
 fn records_right<'a>(
@@ -38,7 +27,7 @@ fn records_right<'a>(
     let mut c: usize = 0;
     while c < channels {
         wrong = wrong
-            | unless(network::record_right(sender[c], receiver[c], capacity[c], processes));
+            | base::unless(network::record_right(sender[c], receiver[c], capacity[c], processes));
         c += 1;
     }
     wrong == 0

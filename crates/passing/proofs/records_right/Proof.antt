@@ -1,9 +1,9 @@
 -- `passing::records_right` meets its contract. The loop's invariant, of the network that the records lent make: none was found wrong exactly where those
 -- passed are right.
 -- Assumes nothing.
-use mathlib.Core.Path.{_≡_, refl, sym, ap, ap₂, _∙_}
-use mathlib.Core.Bool.{Bool, true, false, cond, _&&_}
-use Prim.Native.Nat.{ℕ, _+_, _-_, _≤_}
+use mathlib.Core.Path.{_≡_, refl, ap, _∙_}
+use mathlib.Core.Bool.{Bool, cond}
+use Prim.Native.Nat.{ℕ, _-_, _≤_}
 use native.Mathlib.Omega.{arith}
 use borrow.Author.Needs.{needs}
 use lib.Dec.{eqb}
@@ -11,20 +11,9 @@ use Rattle.base.specs.Tests.{inTurn, firstBad, isGood}
 use Rattle.network.specs.declared.Network.{Network}
 use Rattle.network.specs.Rules.{recordRight, records}
 use Rattle.network.proofs.Parts.{ofRecords, records-of}
-use Rattle.passing.proofs.Clean.{or-zero, good-join, good-one}
+use Rattle.passing.proofs.Clean.{one-on, unless-zero}
 use Rattle.passing.proofs.records_right.Statement.{statement}
 use Rattle.passing.proofs.records_right.Tie as tie
-
--- a record that is wrong leaves its mark
-mark : (b : Bool) → eqb (cond b 0 1) 0 ≡ b
-mark true = refl
-mark false = refl
-
--- one record more
-more : (f : ℕ → Bool) (c : ℕ) (x y : Bool) → x ≡ isGood (firstBad f 0 c) → y ≡ f c → (x && y) ≡ isGood (firstBad f 0 (c + 1))
-more f c x y p q =
-    let z : 0 + c ≡ c = omega arith in
-    ap₂ _&&_ p (q ∙ sym (good-one f c) ∙ ap (λ (k : ℕ). isGood (firstBad f k 1)) (sym z)) ∙ sym (good-join f 0 c 1)
 
 abbrev Inv-loop : tie.InvT-loop
 Inv-loop sender receiver capacity channels processes wrong₀ c₀ wrong c =
@@ -71,8 +60,7 @@ loop-again c =
     let f = recordRight (made (t .before)) in
     let told : c .unless .result ≡ cond (f (t .loop .c)) 0 1 = c .unless .ensures ∙ ap (λ (b : Bool). cond b 0 1) (c .before .record-right .ensures) in (
       search needs,
-      or-zero (t .loop .wrong) (c .unless .result)
-          ∙ more f (t .loop .c) (eqb (t .loop .wrong) 0) (eqb (c .unless .result) 0) (t .loop .inv .1) (rw told (mark (f (t .loop .c)))),
+      one-on f 0 (t .loop .c) (t .loop .c) (t .loop .wrong) (c .unless .result) (omega arith) (t .loop .inv .1) (rw told (unless-zero (f (t .loop .c)))),
     )
 
 returns : tie.Need-returns Inv-loop μ-loop
