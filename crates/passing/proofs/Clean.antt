@@ -78,6 +78,10 @@ pub one-on : (test : ℕ → Bool) (start n i all x : ℕ) → start + n ≡ i �
 one-on test start n i all x e p q =
     or-zero all x ∙ ap₂ _&&_ p (q ∙ sym (good-one test i) ∙ ap (λ (k : ℕ). isGood (firstBad test k 1)) (sym e)) ∙ sym (good-join test start n 1)
 
+pub no-tests : (test : ℕ → Bool) (start n : ℕ) → n ≡ 0 → true ≡ isGood (firstBad test start n)
+unfolding inTurn
+no-tests test start n e = rw e
+
 -- what `base::unless` leaves
 pub unless-zero : (right : Bool) → eqb (cond right 0 1) 0 ≡ right
 unless-zero true = refl

@@ -6,11 +6,51 @@ mod words;
 use base::Verdict;
 use network::Network;
 ghost use mathlib.Core.Path.{_≡_};
-ghost use Prim.Native.Nat.{ℕ, _≤_, _<_};
+ghost use mathlib.Core.Bool.{_&&_};
+ghost use Prim.Native.Nat.{ℕ, _-_, _≤_, _<_};
+ghost use lib.Dec.{eqb};
 ghost use lib.ListN.{length, getD};
-ghost use Rattle.base.specs.Tests.{isGood};
-ghost use Rattle.network.specs.Rules.{records, instructions, unusedSlots, unusedRecords, passes};
+ghost use Rattle.base.specs.Tests.{firstBad, isGood, between, isZero};
+ghost use Rattle.network.specs.Rules.{slots, records, instructions, unusedSlots, unusedRecords, passes};
 ghost use Rattle.passing.specs.Words.{Placed};
+
+// A number of two bytes as a number. Of what is read from a lent array a proof has no bound, so this hands it one.
+fn word(x: u16) -> u32
+    ensures { λ r. ⌜ (r ≡ x) × (r < 65536) ⌝ }
+{
+    x as u32
+}
+
+// A slot is right: it starts where that is due.
+fn slot_right(first: u32, count: u32, due: u32) -> bool
+    ensures { λ r. ⌜ r ≡ (eqb first due && between 1 count 256) ⌝ }
+{
+    if first != due {
+        return false;
+    }
+    if count < 1 {
+        return false;
+    }
+    count <= 256
+}
+
+// All process slots are right. Each is looked at, right or wrong, as the records below are.
+fn slots_right<'a>(first: &'a [u16; 16], count: &'a [u16; 16], processes: usize) -> bool
+    requires { ⌜ processes ≤ 16 ⌝ }
+    ensures { λ r. ⌜ ((net : Network) → net .first ≡ now (first .entry) → net .count ≡ now (count .entry) → net .processes ≡ processes → r ≡ isGood (slots net)) ⌝ }
+{
+    let mut wrong: u8 = 0;
+    let mut due: u32 = 0;
+    let mut p: usize = 0;
+    while p < processes {
+        let start = word(first[p]);
+        let n = word(count[p]);
+        wrong = wrong | base::unless(slot_right(start, n, due));
+        due = start + n;
+        p += 1;
+    }
+    wrong == 0
+}
 
 // All channel records are right. Each is looked at, right or wrong, so that the compiler can look at several at once.
 fn records_right<'a>(
@@ -77,6 +117,20 @@ fn unused_records<'a>(
     Verdict::Good
 }
 
+// All bytes of a code from a place on are zero. Each is looked at, as the records are.
+fn all_zero(code: &[u8; 4064], a: usize) -> bool
+    requires { ⌜ a ≤ 4064 ⌝ }
+    ensures { λ r. ⌜ r ≡ isGood (firstBad (isZero (now (code .entry))) a (4064 - a)) ⌝ }
+{
+    let mut all: u8 = 0;
+    let mut i = a;
+    while i < 4064 {
+        all = all | code[i];
+        i += 1;
+    }
+    all == 0
+}
+
 // The byte at a place of a code. Who has the code by a reference to an array learns from this that all of it are bytes, below 256.
 fn opcode_at(code: &[u8], at: usize) -> u8
     requires { ⌜ at < length (now code) ⌝ }
@@ -132,9 +186,9 @@ pub fn passes(net: Network) -> bool
     if c < 1 || 32 < c {
         return false;
     }
-    let Verdict::Good = network::slots(&net.first, &net.count, p) else {
+    if !slots_right(&net.first, &net.count, p) {
         return false;
-    };
+    }
     let total = network::total(&net.first, &net.count, p);
     if 1016 < total {
         return false;
@@ -148,9 +202,9 @@ pub fn passes(net: Network) -> bool
     let Verdict::Good = unused_records(&net.sender, &net.receiver, &net.capacity, c) else {
         return false;
     };
-    let Verdict::Good = base::zeros(&net.code, 4 * total, 4064) else {
+    if !all_zero(&net.code, 4 * total) {
         return false;
-    };
+    }
     code_right(
         &net.code,
         &net.first,
