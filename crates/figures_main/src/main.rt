@@ -1,9 +1,12 @@
-// What is measured: the block check, reading a file and the soundness test on the largest lane, and a bench of 3,000 pick bytes, each many times. An
-// argument names one of them, `check`, `read`, `sound` or `bench`, by its first letter, for a count of its instructions; without one all are made.
-// Prints what they answered.
+// What is measured: the block check, reading a file and the soundness test on the largest lane, the test on that lane with all processes ended and on a
+// little lane, and a bench of 3,000 pick bytes, each many times. An argument names one of them, `check`, `read`, `sound`, `ended`, `little` or `bench`, by
+// its first letter, for a count of its instructions; without one all are made. Prints what they answered.
 use bench::BenchAnswer;
 use lane::Lane;
+use lane::Standing;
 use lane_file::Answer;
+use process::Channel;
+use process::Condition;
 
 const OUT: i32 = 1;
 
@@ -37,6 +40,32 @@ fn readings(file: [u8; 4608]) -> u64 {
         k += 1;
     }
     count
+}
+
+// The fresh lane of a file.
+fn lane_of(file: &[u8]) -> Lane {
+    let reading = lane_reader::read(file);
+    let net = reading.network;
+    lane_sound::fresh(net)
+}
+
+// A lane of 16 processes and 32 channels with all processes ended, and so with all channels empty, and closed.
+fn ended(lane: Lane) -> Lane {
+    let mut l = lane;
+    let processes = [Standing {
+        position: 0,
+        condition: Condition::Stopped,
+        moves: 1,
+    }; 16];
+    let channels = [Channel {
+        capacity: 1,
+        oldest: 0,
+        held: 0,
+        closed: true,
+    }; 32];
+    l.processes = processes;
+    l.channels = channels;
+    l
 }
 
 // How many of 100 lanes are sound, which differ in the count of accepted calls.
@@ -74,10 +103,16 @@ fn benches(file: &[u8], input: &[u8], picks: &[u8], listing: &mut [u8]) -> u64 {
     sum
 }
 
-// A bench on its three files.
-fn play() -> u64 {
+// The lane file of the bench.
+fn bench_file() -> [u8; 1024] {
     let mut file = [0u8; 1024];
     io::read_full(os::open_read(b"net.bin"), &mut file);
+    file
+}
+
+// A bench on its three files.
+fn play() -> u64 {
+    let file = bench_file();
     let mut input = [0u8; 5000];
     io::read_full(os::open_read(b"in.bin"), &mut input);
     let mut picks = [0u8; 3000];
@@ -99,7 +134,8 @@ fn main() {
     let what = word[0];
     let mut file = [0u8; 4608];
     io::read_full(os::open_read(b"largest.bin"), &mut file);
-    let reading = lane_reader::read(&file);
+    let largest = lane_of(&file);
+    let little = lane_of(&bench_file());
     if what == 0 || what == 99 {
         print(b"check", checks(file));
     }
@@ -107,8 +143,13 @@ fn main() {
         print(b"read", readings(file));
     }
     if what == 0 || what == 115 {
-        let net = reading.network;
-        print(b"sound", sounds(lane_sound::fresh(net)));
+        print(b"sound", sounds(largest));
+    }
+    if what == 0 || what == 101 {
+        print(b"ended", sounds(ended(largest)));
+    }
+    if what == 0 || what == 108 {
+        print(b"little", sounds(little));
     }
     if what == 0 || what == 98 {
         print(b"bench", play());

@@ -1,12 +1,14 @@
 //! Does one thing so many times, for counts of instructions. The count with no
 //! times is what the start takes.
 //!
-//! figures check|read|sound|bench TIMES [FOLDER]
+//! figures check|read|sound|ended|little|bench TIMES [FOLDER]
 //! figures files FOLDER
 //!
 //! - check: the check of a slice of 4,608 bytes
 //! - read: reading the largest lane file
 //! - sound: the test for soundness of the largest lane
+//! - ended: the same with all processes ended
+//! - little: the same of the lane of the bench
 //! - bench: a bench with 3,000 pick bytes
 //!
 //! `figures files` writes what these use to the folder: largest.bin, net.bin,
@@ -15,7 +17,7 @@
 use reference::bench::{bench, LISTING, PICKS};
 use reference::check::check;
 use reference::file;
-use reference::lane::Lane;
+use reference::lane::{Condition, Lane};
 use reference::network::{code, Network, Record, OUTSIDE};
 use reference::plans::largest;
 use std::hint::black_box;
@@ -36,7 +38,7 @@ fn main() -> ExitCode {
         _ => false,
     };
     if !done {
-        eprintln!("figures check|read|sound|bench TIMES [FOLDER], or figures files FOLDER");
+        eprintln!("figures check|read|sound|ended|little|bench TIMES [FOLDER], or figures files FOLDER");
         return ExitCode::from(2);
     }
     ExitCode::SUCCESS
@@ -54,12 +56,9 @@ fn repeat(what: &str, times: usize, [large, file, input, picks]: &[Vec<u8>; 4]) 
                 black_box(file::read(black_box(large))).expect("a lane file");
             }
         }
-        "sound" => {
-            let lane = Lane::fresh(file::read(large).expect("a lane file"));
-            for _ in 0..times {
-                assert!(black_box(&lane).is_sound());
-            }
-        }
+        "sound" => test(&lane_of(large), times),
+        "ended" => test(&ended(lane_of(large)), times),
+        "little" => test(&lane_of(file), times),
         "bench" => {
             let mut listing = vec![0; LISTING];
             for _ in 0..times {
@@ -72,6 +71,27 @@ fn repeat(what: &str, times: usize, [large, file, input, picks]: &[Vec<u8>; 4]) 
         _ => return false,
     }
     true
+}
+
+fn lane_of(file: &[u8]) -> Lane {
+    Lane::fresh(file::read(file).expect("a lane file"))
+}
+
+/// The lane with all processes ended: its channels are empty, and closed.
+fn ended(mut lane: Lane) -> Lane {
+    for process in &mut lane.processes {
+        process.condition = Condition::Stopped;
+    }
+    for channel in &mut lane.channels {
+        channel.closed = true;
+    }
+    lane
+}
+
+fn test(lane: &Lane, times: usize) {
+    for _ in 0..times {
+        assert!(black_box(lane).is_sound());
+    }
 }
 
 /// The largest lane file, and a bench: one process doubles what it receives,
