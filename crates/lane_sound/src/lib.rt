@@ -82,8 +82,8 @@ fn rest_zero(
     true
 }
 
-// Whether a lane, any value of the record, is sound. The network is tested first, so that each number read is in place. Where all processes are live no
-// channel has an end that has ended, and where all places are in use none has to be zero.
+// Whether a lane, any value of the record, is sound. The network is tested first, so that each number read is in place. Where all places are in use none
+// has to be zero.
 pub fn sound(lane: Lane) -> bool
     ensures { λ r. ⌜ r ≡ soundOf lane ⌝ }
 {
@@ -95,20 +95,17 @@ pub fn sound(lane: Lane) -> bool
     let count = lane.network.count;
     let processes = lane.processes;
     let channels = lane.channels;
-    if soundness::all_live(&count, processes, used) {
-        let Verdict::Good = soundness::live_channels(channels, inside) else {
-            return false;
-        };
-    } else {
-        let Verdict::Good = soundness::positions(&count, processes, used) else {
-            return false;
-        };
-        let sender = lane.network.sender;
-        let receiver = lane.network.receiver;
-        let Verdict::Good = soundness::channels(&sender, &receiver, processes, channels, inside)
-        else {
-            return false;
-        };
+    let mut marks = [0u16; 256];
+    if !soundness::standings(&count, processes, used, &mut marks) {
+        return false;
+    }
+    if !soundness::limits(channels, inside) {
+        return false;
+    }
+    let sender = lane.network.sender;
+    let receiver = lane.network.receiver;
+    if !soundness::ends(&sender, &receiver, &marks, channels, inside) {
+        return false;
     }
     if used == 16 {
         if inside == 32 {

@@ -7,15 +7,17 @@ use lane::Standing;
 use process::Channel;
 use process::Condition;
 ghost use mathlib.Core.Path.{_≡_};
-ghost use mathlib.Core.Bool.{false, not, _&&_};
-ghost use Prim.Native.Nat.{_-_, _*_, _≤_};
-ghost use lib.Dec.{ltb};
+ghost use mathlib.Core.Bool.{Bool, false, cond, not, _&&_, _||_};
+ghost use Prim.Native.Nat.{ℕ, _-_, _*_, _≤_, _<_};
+ghost use lib.Dec.{ltb, eqb};
 ghost use lib.IntN.{pos};
-ghost use lib.ListN.{getD};
+ghost use lib.ListN.{getD, replicate};
+ghost use Rattle.base.specs.Lists.{table};
 ghost use Rattle.base.specs.Tests.{firstBad, isGood};
 ghost use Rattle.process.specs.Want.{isNull};
-ghost use Rattle.lane.specs.State.{standingOf, isEnded, channelOf};
-ghost use Rattle.lane.specs.Sound.{positionSound, channelSound, channelSoundAt, standingZero, channelZero};
+ghost use Rattle.network.specs.Rules.{senderOf, receiverOf};
+ghost use Rattle.lane.specs.State.{standingOf, isEnded, endedAt, channelOf};
+ghost use Rattle.lane.specs.Sound.{positionSound, channelSound, standingZero, channelZero};
 
 // A process in this condition has ended. Public for relief too.
 pub fn is_ended(k: Condition) -> bool
@@ -37,35 +39,6 @@ pub fn ended_if(e: usize, s: Standing) -> bool
         return is_ended(k);
     }
     false
-}
-
-// A channel is sound; `sender` and `receiver` say whether its ends have ended.
-fn channel_sound(sender: bool, receiver: bool, h: Channel) -> bool
-    ensures { λ r. ⌜ r ≡ channelSound sender receiver h ⌝ }
-{
-    if h.capacity < h.held {
-        return false;
-    }
-    if h.capacity < 1 {
-        return false;
-    }
-    if 256 < h.capacity {
-        return false;
-    }
-    if 255 < h.oldest {
-        return false;
-    }
-    if sender {
-        if !h.closed {
-            return false;
-        }
-    }
-    if receiver {
-        if h.held != 0 {
-            return false;
-        }
-    }
-    true
 }
 
 // A process as at the start: at its first instruction, live, no move made.
@@ -98,46 +71,103 @@ fn channel_zero(h: Channel) -> bool
     !h.closed
 }
 
-// The first process whose position is not below its count.
-pub fn positions(count: &[u16; 16], processes: [Standing; 16], used: usize) -> Verdict
-    requires { ⌜ used ≤ 16 ⌝ }
-    ensures { λ r. ⌜ ((lane : Lane) → lane .network .count ≡ now (count .entry) → lane .processes ≡ processes → r ≡ firstBad (positionSound lane) 0 used) ⌝ }
+// What is kept of an end: every binary digit of a number of two bytes where its process has ended, none where that is live.
+fn mark(k: Condition) -> u16
+    ensures { λ r. ⌜ r ≡ cond (isEnded k) 65535 0 ⌝ }
 {
+    if is_ended(k) {
+        return 65535;
+    }
+    0
+}
+
+// Whether all positions are below the counts. Marks the processes that have ended, by the number that an end of a channel has; the outside, 255, never has.
+pub fn standings(
+    count: &[u16; 16],
+    processes: [Standing; 16],
+    used: usize,
+    marks: &mut [u16; 256],
+) -> bool
+    requires { ⌜ (used ≤ 16) × (now marks ≡ replicate 256 0) ⌝ }
+    ensures { λ r. ⌜ ((lane : Lane) → lane .network .count ≡ now (count .entry) → lane .processes ≡ processes → (r ≡ isGood (firstBad (positionSound lane) 0 used)) × (now (marks .exit) ≡ table 256 (λ e. cond (ltb e used && endedAt lane e) 65535 0))) ⌝ }
+{
+    let mut wrong: u8 = 0;
     let mut p: usize = 0;
     while p < used {
         let s = processes[p];
-        if count[p] <= s.position {
-            return Verdict::Bad(p);
-        }
+        wrong = wrong | base::unless(s.position < count[p]);
+        let k = s.condition;
+        marks[p] = mark(k);
         p += 1;
     }
-    Verdict::Good
+    wrong == 0
 }
 
-// The first channel in use that is not sound.
-pub fn channels<'a>(
-    sender: &'a [u8; 32],
-    receiver: &'a [u8; 32],
-    processes: [Standing; 16],
-    channels: [Channel; 32],
-    used: usize,
-) -> Verdict
+// Whether channels in use are within their limits, whatever their ends. The numbers of a channel are laid over those of the others: a capacity of 0 or above
+// 256 and an oldest above 255 leave a digit from 8 to 15 or from 24 to 31 of the one sum, more held than the capacity digit 16 of the other.
+pub fn limits(channels: [Channel; 32], used: usize) -> bool
     requires { ⌜ used ≤ 32 ⌝ }
-    ensures { λ r. ⌜ ((lane : Lane) → lane .network .sender ≡ now (sender .entry) → lane .network .receiver ≡ now (receiver .entry) → lane .processes ≡ processes → lane .channels ≡ channels → r ≡ firstBad (channelSoundAt lane) 0 used) ⌝ }
+    ensures { λ r. ⌜ ((lane : Lane) → lane .channels ≡ channels → r ≡ isGood (firstBad (λ c. channelSound false false (channelOf lane c)) 0 used)) ⌝ }
 {
+    let mut places: u64 = 0;
+    let mut fillings: u64 = 0;
     let mut c: usize = 0;
     while c < used {
-        let from = base::wide(sender[c]);
-        let to = base::wide(receiver[c]);
-        let s = processes[from % 16];
-        let r = processes[to % 16];
         let h = channels[c];
-        if !channel_sound(ended_if(from, s), ended_if(to, r), h) {
-            return Verdict::Bad(c);
-        }
+        let capacity = h.capacity as u64;
+        places = places | (capacity + 0x10000 * (h.oldest as u64) + 0xFFFFFFFF);
+        fillings = fillings | ((h.held as u64) + 0xFFFF - capacity);
         c += 1;
     }
-    Verdict::Good
+    places & 0xFF00FF00 == 0 && fillings & 0x10000 == 0
+}
+
+// The number of an end; that it is below 256 is not known of an element that is read through a reference.
+fn end(e: u8) -> usize
+    ensures { λ r. ⌜ (r ≡ e) × (r < 256) ⌝ }
+{
+    e as usize
+}
+
+// 1 if a channel is open.
+fn open(closed: bool) -> u16
+    ensures { λ r. ⌜ r ≡ cond closed 0 1 ⌝ }
+{
+    if closed {
+        return 0;
+    }
+    1
+}
+
+// What the marks of its ends leave of a channel: nothing exactly where a sender that has ended has closed it and a receiver that has holds nothing.
+fn left(from: u16, to: u16, closed: bool, held: u16) -> u16
+    ensures { λ r. ⌜ ((s t : Bool) → from ≡ cond s 65535 0 → to ≡ cond t 65535 0 → eqb r 0 ≡ ((not s || closed) && (not t || eqb held 0))) ⌝ }
+{
+    (from & open(closed)) | (to & held)
+}
+
+// Whether channels in use whose sender has ended are closed, and those whose receiver has ended hold nothing; the marks tell which have ended.
+pub fn ends<'a>(
+    sender: &'a [u8; 32],
+    receiver: &'a [u8; 32],
+    marks: &'a [u16; 256],
+    channels: [Channel; 32],
+    used: usize,
+) -> bool
+    requires { ⌜ used ≤ 32 ⌝ }
+    ensures { λ r. ⌜ ((lane : Lane) (ended : ℕ → Bool) → lane .network .sender ≡ now (sender .entry) → lane .network .receiver ≡ now (receiver .entry) → lane .channels ≡ channels → now (marks .entry) ≡ table 256 (λ e. cond (ended e) 65535 0) → r ≡ isGood (firstBad (λ c. (not (ended (senderOf (lane .network) c)) || channelOf lane c .closed) && (not (ended (receiverOf (lane .network) c)) || eqb (channelOf lane c .held) 0)) 0 used)) ⌝ }
+{
+    let mut wrong: u16 = 0;
+    let mut c: usize = 0;
+    while c < used {
+        let held = channels[c].held;
+        let closed = channels[c].closed;
+        let from = marks[end(sender[c])];
+        let to = marks[end(receiver[c])];
+        wrong = wrong | left(from, to, closed, held);
+        c += 1;
+    }
+    wrong == 0
 }
 
 // The first process not in use that is not zero.
@@ -178,42 +208,6 @@ pub fn unused_channels(channels: [Channel; 32], used: usize) -> Verdict
     while c < 32 {
         let h = channels[c];
         if !channel_zero(h) {
-            return Verdict::Bad(c);
-        }
-        c += 1;
-    }
-    Verdict::Good
-}
-
-// Each process in use is live, at a position below its count.
-pub fn all_live(count: &[u16; 16], processes: [Standing; 16], used: usize) -> bool
-    requires { ⌜ used ≤ 16 ⌝ }
-    ensures { λ r. ⌜ ((lane : Lane) → lane .network .count ≡ now (count .entry) → lane .processes ≡ processes → r ≡ isGood (firstBad (λ p. positionSound lane p && not (isEnded (standingOf lane p .condition))) 0 used)) ⌝ }
-{
-    let mut p: usize = 0;
-    while p < used {
-        let s = processes[p];
-        if count[p] <= s.position {
-            return false;
-        }
-        let k = s.condition;
-        if is_ended(k) {
-            return false;
-        }
-        p += 1;
-    }
-    true
-}
-
-// The first channel in use that is not sound, where no end of it has ended.
-pub fn live_channels(channels: [Channel; 32], used: usize) -> Verdict
-    requires { ⌜ used ≤ 32 ⌝ }
-    ensures { λ r. ⌜ ((lane : Lane) → lane .channels ≡ channels → r ≡ firstBad (λ c. channelSound false false (channelOf lane c)) 0 used) ⌝ }
-{
-    let mut c: usize = 0;
-    while c < used {
-        let h = channels[c];
-        if !channel_sound(false, false, h) {
             return Verdict::Bad(c);
         }
         c += 1;

@@ -1,0 +1,61 @@
+-- What the numbers of a channel leave in the sums that are laid over one another: one sum is clean of its flags exactly where the capacity is 1 to 256 and
+-- the oldest at most 255, the other where no more is held than the capacity.
+-- Assumes nothing.
+use mathlib.Core.Path.{_≡_, refl, sym, ap, ap₂, _∙_}
+use mathlib.Core.Bool.{Bool, true, _&&_}
+use Prim.Native.Nat.{ℕ, zero, suc, _+_, _-_, _*_, _/_, _%_, _^_, _<_}
+use native.Mathlib.Nat.{mod-eq-of-lt}
+use native.Mathlib.Omega.{arith}
+use borrow.Author.Tests.{leb-true, le-leb, eqb-true, eq-eqb, ne-eqb}
+use lib.Bits.{bitAnd, and-block, and-high}
+use lib.Dec.{eqb, leb}
+use Rattle.base.specs.Tests.{between}
+use Rattle.base.proofs.Conjunction.{iff, between-true, true-between}
+use Rattle.passing.specs.Words.{clean}
+
+-- a sum is zero where both parts are
+sum-zero : (x k y : ℕ) → 0 < k → eqb (x * k + y) 0 ≡ (eqb y 0 && eqb x 0)
+sum-zero x k zero h = iff _ _ (λ e. product x (eqb-true _ _ e)) (λ e. rw (eqb-true x 0 e) (eq-eqb (0 * k + 0) 0 (omega arith)))
+  where
+    product : (x : ℕ) → x * k + 0 ≡ 0 → eqb x 0 ≡ true
+    product zero e = refl
+    product (suc x) e = absurd (omega arith)
+sum-zero x k (suc y) h = ne-eqb (x * k + suc y) 0 (λ e. omega arith) ∙ sym (rw (ne-eqb (suc y) 0 (λ e. omega arith)))
+
+-- one digit of k binary digits, split off from below
+split-off : (k x d mask flag : ℕ) (low high : Bool) → 0 < 2 ^ k → d < 2 ^ k → flag < 2 ^ k → clean flag d ≡ low → clean mask x ≡ high
+    → clean (mask * 2 ^ k + flag) (x * 2 ^ k + d) ≡ (low && high)
+split-off k x d mask flag low high h l m e f =
+    ap (λ (n : ℕ). eqb n 0) (and-block k x mask d flag l m) ∙ sum-zero (bitAnd x mask) (2 ^ k) (bitAnd d flag) h
+    ∙ ap₂ (λ (a b : Bool). a && b) e f
+
+-- a number of two bytes, whatever stands above it, is clean of the upper one where it is at most 255
+upper : (high d : ℕ) → d < 65536 → clean 0xFF00 (65536 * high + d) ≡ leb d 255
+upper high d h =
+    let e : bitAnd (65536 * high + d) 0xFF00 ≡ (65536 * high + d) / 256 % 256 * 256 = and-high (65536 * high + d) 8 8 in
+    let q : (65536 * high + d) / 256 ≡ 256 * high + d / 256 = omega arith in
+    let r : (256 * high + d / 256) % 256 ≡ d / 256 = omega arith in
+    let f : bitAnd (65536 * high + d) 0xFF00 ≡ d / 256 * 256 = e ∙ rw (q, r) in
+    iff _ _ (omega (arith, eqb-true, le-leb)) (omega (arith, leb-true, eq-eqb))
+
+-- a capacity from 1 on, less 1
+from-one : (k : ℕ) → leb k 255 ≡ between 1 (suc k) 256
+from-one k = iff _ _ (λ t. true-between 1 (suc k) 256 (omega arith) (omega (arith, leb-true))) (λ t. le-leb k 255 (omega (arith, between-true 1 (suc k) 256 t .1)))
+
+-- the capacity less 1 stands in the lower number, which has all its digits where the capacity is 0; the oldest in the upper one
+pub places-clean : (capacity oldest : ℕ) → capacity < 65536 → oldest < 65536
+    → clean 0xFF00FF00 (capacity + 0x10000 * oldest + 0xFFFFFFFF) ≡ (between 1 capacity 256 && leb oldest 255)
+places-clean zero oldest h l =
+    let e : 0 + 0x10000 * oldest + 0xFFFFFFFF ≡ (oldest + 65535) * 65536 + 65535 = omega arith in
+    ap (clean 0xFF00FF00) e ∙ split-off 16 (oldest + 65535) 65535 0xFF00 0xFF00 _ _ (omega arith) (omega arith) (omega arith) refl refl
+places-clean (suc k) oldest h l =
+    let e : suc k + 0x10000 * oldest + 0xFFFFFFFF ≡ (65536 * 1 + oldest) * 65536 + (65536 * 0 + k) = omega arith in
+    ap (clean 0xFF00FF00) e
+    ∙ split-off 16 (65536 * 1 + oldest) (65536 * 0 + k) 0xFF00 0xFF00 _ _ (omega arith) (omega arith) (omega arith)
+    (upper 0 k (omega arith) ∙ from-one k) (upper 1 oldest l)
+
+pub filling-clean : (held capacity : ℕ) → held < 65536 → capacity < 65536 → clean 0x10000 (held + 0xFFFF - capacity) ≡ leb held capacity
+filling-clean held capacity h l =
+    let e : bitAnd (held + 0xFFFF - capacity) 0x10000 ≡ (held + 0xFFFF - capacity) / 65536 % 2 * 65536 = and-high (held + 0xFFFF - capacity) 1 16 in
+    let q : (held + 0xFFFF - capacity) / 65536 % 2 ≡ (held + 0xFFFF - capacity) / 65536 = mod-eq-of-lt (omega arith) in
+    iff _ _ (omega (arith, eqb-true, le-leb)) (omega (arith, leb-true, eq-eqb))
