@@ -73,13 +73,14 @@ module _ (code first count receiver sender : List ℕ) (channels : ℕ) where
   allRight p = isGood (firstBad (fieldsAt (getD count p 0) p) (getD first p 0) (getD count p 0))
 
   -- ---- the sums of a process
-  module _ (bytes : (k : ℕ) → getD code k 0 < 256) (many p : ℕ) (below : p < 16) (low : 1 ≤ many) (high : many ≤ 256) where
+  module _ (bytes : (k : ℕ) → getD code k 0 < 256) (many p : ℕ) (below : p < 16) (low : 1 ≤ many) (high : many ≤ 256)
+      (few : channels ≤ 32) where
     sum-clean : (i : ℕ) → sumClean many p i ≡ fieldsAt many p i
     sum-clean i =
         let o = bytes (4 * i) in
         let b = bytes (4 * i + 2) in
         rw (table-at (opcodeWord many p) 256 (getD code (4 * i) 0) 0 o, table-at (channelWord receiver sender channels) 256 (getD code (4 * i + 2) 0) 0 b)
-        (clean-right receiver sender channels many p (instructionAt code i) o (bytes (4 * i + 1)) b (bytes (4 * i + 3)) below low high)
+        (clean-right receiver sender channels many p (instructionAt code i) o (bytes (4 * i + 1)) b (bytes (4 * i + 3)) below low high few)
 
     pub sums-clean : (s n : ℕ) → isGood (firstBad (sumClean many p) s n) ≡ isGood (firstBad (fieldsAt many p) s n)
     sums-clean s n =

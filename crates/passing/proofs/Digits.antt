@@ -1,14 +1,15 @@
--- A sum of seven digits is clean of the flags exactly where each digit is below its own flag. The digits stand where the fields of a weighed
--- instruction do, each with room for its flag; one digit after the other is split off from below.
+-- A sum of eight digits is clean of the flags exactly where each digit is clean of its own: seven of one flag, where they are below it, the second of
+-- six. The digits stand where the fields of a weighed instruction do, each with room for its flags; one digit after the other is split off from below.
 -- Assumes nothing.
 use mathlib.Core.Path.{_≡_, refl, sym, ap, ap₂, _∙_}
 use mathlib.Core.Bool.{Bool, true, false, _&&_, and-false}
-use Prim.Native.Nat.{ℕ, zero, suc, _+_, _*_, _/_, _%_, _^_, _≤_, _<_}
-use native.Mathlib.Nat.{mod-eq-of-lt}
+use Prim.Native.Nat.{ℕ, zero, suc, _+_, _-_, _*_, _/_, _%_, _^_, _<_}
+use native.Mathlib.Nat.{mod-eq-of-lt, div-eq-of-lt, div-lt-iff-lt-mul, add-zero}
 use native.Mathlib.Omega.{arith}
-use borrow.Author.Tests.{ltb-true, lt-ltb, eqb-true, le-ltb, eq-eqb, ne-eqb}
+use borrow.Author.Tests.{ltb-true, lt-ltb, eqb-true, eq-eqb, ne-eqb}
 use lib.Bits.{bitAnd, and-block, and-high}
 use lib.Dec.{eqb, ltb}
+use lib.Pow.{pow-pos}
 use Rattle.base.proofs.Conjunction.{iff}
 use Rattle.passing.specs.Words.{clean, flags}
 
@@ -28,53 +29,55 @@ split-off k x d mask flag low high h l m e f =
     ap (λ (n : ℕ). eqb n 0) (and-block k x mask d flag l m) ∙ sum-zero (bitAnd x mask) (2 ^ k) (bitAnd d flag) h
     ∙ ap₂ (λ (a b : Bool). a && b) e f
 
--- a digit is clean of its flags where it is below the lowest of them
-below-32 : (d : ℕ) → d < 64 → clean 32 d ≡ ltb d 32
-below-32 d h =
-    let e : bitAnd d 32 ≡ d / 32 % 2 * 32 = and-high d 1 5 in
-    let q : d / 32 % 2 ≡ d / 32 = mod-eq-of-lt (omega arith) in
-    iff _ _ (omega (arith, eqb-true, lt-ltb)) (omega (arith, ltb-true, eq-eqb))
+-- a digit is clean of j flags, the lowest of them at k, where it is below that
+below : (j k d : ℕ) → d < 2 ^ j * 2 ^ k → clean (2 ^ (j + k) - 2 ^ k) d ≡ ltb d (2 ^ k)
+below j k d h =
+    let x : ℕ = d / 2 ^ k in
+    let e : x % 2 ^ j ≡ x = mod-eq-of-lt (div-lt-iff-lt-mul (pow-pos k) .1 h) in
+    ap (λ (n : ℕ). eqb n 0) (and-high d j k ∙ ap (λ (n : ℕ). n * 2 ^ k) e ∙ sym (add-zero (x * 2 ^ k)))
+    ∙ sum-zero x (2 ^ k) 0 (pow-pos k)
+    ∙ iff (eqb x 0) (ltb d (2 ^ k))
+    (λ t. let z : x ≡ 0 = eqb-true x 0 t in lt-ltb d (2 ^ k) (omega (arith, div-lt-iff-lt-mul {k = 2 ^ k} {x = d} {y = 1} (pow-pos k) .0 (omega arith))))
+    (λ t. eq-eqb x 0 (div-eq-of-lt (ltb-true d (2 ^ k) t)))
 
-below-256 : (d : ℕ) → d < 512 → clean 256 d ≡ ltb d 256
-below-256 d h =
-    let e : bitAnd d 256 ≡ d / 256 % 2 * 256 = and-high d 1 8 in
-    let q : d / 256 % 2 ≡ d / 256 = mod-eq-of-lt (omega arith) in
-    iff _ _ (omega (arith, eqb-true, lt-ltb)) (omega (arith, ltb-true, eq-eqb))
+-- the digit of the field a: five flags above the three digits of a register, and one at the top, of what is carried out of the field
+abbrev pub fieldFlags : ℕ
+fieldFlags = 0x80F8
 
--- the top digit has two flags
-below-top : (d : ℕ) → d < 128 → clean 96 d ≡ ltb d 32
-below-top d h =
-    let e : bitAnd d 96 ≡ d / 32 % 4 * 32 = and-high d 2 5 in
-    let q : d / 32 % 4 ≡ d / 32 = mod-eq-of-lt (omega arith) in
-    iff _ _ (omega (arith, eqb-true, lt-ltb)) (omega (arith, ltb-true, eq-eqb))
+pub clean-field : (x d : ℕ) → x < 256 → d < 256 → clean fieldFlags (d + 256 * x) ≡ (ltb d 8 && ltb x 128)
+clean-field x d h l =
+    let e : d + 256 * x ≡ x * 256 + d = omega arith in
+    ap (clean fieldFlags) e ∙ split-off 8 x d 0x80 0xF8 _ _ (omega arith) l (omega arith) (below 5 3 d l) (below 1 7 x h)
 
 -- the sum of the digits
-abbrev pub digits : ℕ → ℕ → ℕ → ℕ → ℕ → ℕ → ℕ → ℕ
-digits d0 d1 d2 d3 d4 d5 d6 =
-    d0 + 256 * d1 + 131072 * d2 + 16777216 * d3 + 8589934592 * d4 + 1099511627776 * d5 + 1125899906842624 * d6
+abbrev pub digits : ℕ → ℕ → ℕ → ℕ → ℕ → ℕ → ℕ → ℕ → ℕ
+digits d0 d1 d2 d3 d4 d5 d6 d7 =
+    d0 + 0x100 * d1 + 0x1000000 * d2 + 0x200000000 * d3 + 0x10000000000 * d4 + 0x1000000000000 * d5 + 0x40000000000000 * d6 + 0x2000000000000000 * d7
 
-pub clean-digits : (d0 d1 d2 d3 d4 d5 d6 : ℕ) → d0 < 64 → d1 < 512 → d2 < 64 → d3 < 512 → d4 < 64 → d5 < 512 → d6 < 128
-    → clean flags (digits d0 d1 d2 d3 d4 d5 d6)
-    ≡ (ltb d0 32 && (ltb d1 256 && (ltb d2 32 && (ltb d3 256 && (ltb d4 32 && (ltb d5 256 && ltb d6 32))))))
-clean-digits d0 d1 d2 d3 d4 d5 d6 h0 h1 h2 h3 h4 h5 h6 =
-    let x5 : ℕ = d6 * 1024 + d5 in
-    let x4 : ℕ = x5 * 128 + d4 in
-    let x3 : ℕ = x4 * 512 + d3 in
-    let x2 : ℕ = x3 * 128 + d2 in
-    let x1 : ℕ = x2 * 512 + d1 in
-    let e : digits d0 d1 d2 d3 d4 d5 d6 ≡ x1 * 256 + d0 = omega arith in
+pub clean-digits : (d0 d1 d2 d3 d4 d5 d6 d7 : ℕ) → d0 < 64 → d1 < 65536 → d2 < 512 → d3 < 64 → d4 < 128 → d5 < 64 → d6 < 64
+    → clean flags (digits d0 d1 d2 d3 d4 d5 d6 d7)
+    ≡ (ltb d0 32 && (clean fieldFlags d1 && (ltb d2 256 && (ltb d3 32 && (ltb d4 64 && (ltb d5 32 && (ltb d6 32 && clean 2 d7)))))))
+clean-digits d0 d1 d2 d3 d4 d5 d6 d7 h0 h1 h2 h3 h4 h5 h6 =
+    let x6 : ℕ = d7 * 128 + d6 in
+    let x5 : ℕ = x6 * 64 + d5 in
+    let x4 : ℕ = x5 * 256 + d4 in
+    let x3 : ℕ = x4 * 128 + d3 in
+    let x2 : ℕ = x3 * 512 + d2 in
+    let x1 : ℕ = x2 * 65536 + d1 in
+    let e : digits d0 d1 d2 d3 d4 d5 d6 d7 ≡ x1 * 256 + d0 = omega arith in
     ap (clean flags) e
-    ∙ split-off 8 x1 d0 423313067229440 32 _ _ (omega arith) (omega arith) (omega arith) (below-32 d0 h0)
-    (split-off 9 x2 d1 826783334432 256 _ _ (omega arith) (omega arith) (omega arith) (below-256 d1 h1)
-    (split-off 7 x3 d2 6459244800 32 _ _ (omega arith) (omega arith) (omega arith) (below-32 d2 h2)
-    (split-off 9 x4 d3 12615712 256 _ _ (omega arith) (omega arith) (omega arith) (below-256 d3 h3)
-    (split-off 7 x5 d4 98560 32 _ _ (omega arith) (omega arith) (omega arith) (below-32 d4 h4)
-    (split-off 10 d6 d5 96 256 _ _ (omega arith) (omega arith) (omega arith) (below-256 d5 h5) (below-top d6 h6))))))
+    ∙ split-off 8 x1 d0 0x482040410080F8 32 _ _ (omega arith) (omega arith) (omega arith) (below 1 5 d0 h0)
+    (split-off 16 x2 d1 0x4820404100 fieldFlags _ _ (omega arith) (omega arith) (omega arith) refl
+    (split-off 9 x3 d2 0x24102020 256 _ _ (omega arith) (omega arith) (omega arith) (below 1 8 d2 h2)
+    (split-off 7 x4 d3 0x482040 32 _ _ (omega arith) (omega arith) (omega arith) (below 1 5 d3 h3)
+    (split-off 8 x5 d4 0x4820 64 _ _ (omega arith) (omega arith) (omega arith) (below 1 6 d4 h4)
+    (split-off 6 x6 d5 0x120 32 _ _ (omega arith) (omega arith) (omega arith) (below 1 5 d5 h5)
+    (split-off 7 d7 d6 2 32 _ _ (omega arith) (omega arith) (omega arith) (below 1 5 d6 h6) refl))))))
 
 -- the top digit alone, above any others
-pub top-unclean : (low d6 : ℕ) → low < 1125899906842624 → 32 ≤ d6 → d6 < 128 → clean flags (low + 1125899906842624 * d6) ≡ false
-top-unclean low d6 h l m =
-    let e : low + 1125899906842624 * d6 ≡ d6 * 1125899906842624 + low = omega arith in
+pub top-unclean : (low d7 : ℕ) → low < 0x2000000000000000 → clean 2 d7 ≡ false → clean flags (low + 0x2000000000000000 * d7) ≡ false
+top-unclean low d7 h u =
+    let e : low + 0x2000000000000000 * d7 ≡ d7 * 0x2000000000000000 + low = omega arith in
     ap (clean flags) e
-    ∙ split-off 50 d6 low 96 281754153844768 _ false (omega arith) h (omega arith) refl (below-top d6 m ∙ le-ltb d6 32 l)
-    ∙ and-false (clean 281754153844768 low)
+    ∙ split-off 61 d7 low 2 0x82040410080F820 _ false (omega arith) h (omega arith) refl u
+    ∙ and-false (clean 0x82040410080F820 low)

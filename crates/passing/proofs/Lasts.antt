@@ -1,5 +1,5 @@
--- What the loop over the processes needs of single numbers: a byte is clean of 247 exactly where it is the opcode of a stop or a jump; the words of a
--- process's opcodes are those of any other but for 8 to 13; a table's words are small where its function's values are.
+-- What the loop over the processes needs of single numbers: a byte is clean of 247 exactly where it is the opcode of a stop or a jump; a table's words
+-- are small where its function's values are.
 -- Assumes nothing.
 use mathlib.Core.Path.{_≡_, ap, ap₂, _∙_}
 use Prim.Native.Nat.{ℕ, _+_, _*_, _/_, _%_, _<_}
@@ -11,8 +11,7 @@ use lib.ListN.{getD, List·getD-eq-default}
 use Rattle.base.specs.Lists.{table}
 use Rattle.base.proofs.Lists.{table-at, length-values}
 use Rattle.network.specs.Code.{mayBeLast}
-use Rattle.passing.specs.Words.{clean, opcodeWord, Steady, Small}
-use Rattle.passing.proofs.Tables.{same-adds}
+use Rattle.passing.specs.Words.{clean, Small}
 
 -- ---- the last opcode
 and-247 : (o : ℕ) → o < 256 → bitAnd o 247 ≡ o / 16 * 16 + o % 8
@@ -29,14 +28,10 @@ clean-last o h = go (ℕ-discrete o 0) (ℕ-discrete o 8)
     go (no p) (yes q) = rw q
     go (no p) (no q) = rw (ne-eqb o 0 p, ne-eqb o 8 q) (ne-eqb (bitAnd o 247) 0 (λ e. omega (arith, and-247 o h)))
 
--- ---- the words of the opcodes
-pub table-steady : (count p : ℕ) → Steady (table 256 (opcodeWord count p))
-table-steady count p k h n = table-at (opcodeWord count p) 256 k 0 h ∙ same-adds count p k n
-
 -- ---- small words
-pub table-small : (f : ℕ → ℕ) → ((k : ℕ) → k < 256 → f k < 144115188075855872) → Small (table 256 f)
+pub table-small : (f : ℕ → ℕ) → ((k : ℕ) → k < 256 → f k < 0x7000000000000000) → Small (table 256 f)
 table-small f s k = go (decLt k 256)
   where
-    go : Dec (k < 256) → getD (table 256 f) k 0 < 144115188075855872
+    go : Dec (k < 256) → getD (table 256 f) k 0 < 0x7000000000000000
     go (yes h) = rw (table-at f 256 k 0 h) (s k h)
     go (no h) = rw (List·getD-eq-default (table 256 f) 0 {n = k} (omega (arith, length-values f 256 0))) (omega arith)

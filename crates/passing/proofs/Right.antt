@@ -1,48 +1,44 @@
 -- An instruction's sum is clean of the flags exactly where its fields are right. The sum's digits are the fields, each with what its limit lacks, and
--- the channel's ends, against the process where the opcode asks for that; an opcode that is none sets a flag of the top digit. The words of the two
--- tables leave room for the sum.
+-- the channel's ends, against the process where the opcode asks for that. Where the opcode asks for a short b and b is not, and where it is none, the top
+-- digit is not clean; opcode 1 takes any b. The words of the two tables leave room for the sum.
 -- Assumes nothing.
 use mathlib.Core.Path.{_≡_, refl, sym, ap, ap₂, _∙_}
-use mathlib.Core.Bool.{Bool, true, false, _&&_, and-true, and-false}
+use mathlib.Core.Bool.{Bool, true, false, cond, _&&_, and-true, and-false}
 use mathlib.Core.List.{List}
 use Prim.Native.Nat.{ℕ, zero, suc, _+_, _-_, _*_, _≤_, _<_, zero-le, suc-le-suc}
+use native.Mathlib.Decide.{decLt}
 use native.Mathlib.Omega.{arith}
-use borrow.Author.Tests.{lt-ltb}
+use borrow.Author.Tests.{lt-ltb, le-ltb, ne-eqb}
 use lib.Dec.{eqb, ltb}
 use lib.ListN.{getD, List·getD-eq-default}
 use Rattle.network.specs.declared.Instruction.{Instruction}
 use Rattle.network.specs.Code.{register, unnamed, target, threeRegisters, fieldsRight}
-use Rattle.passing.specs.Words.{clean, weighed, flags, room, half, noOpcode, opcodeWord, endAt, channelWord}
+use Rattle.passing.specs.Words.{clean, weighed, flags, room, noField, asked, short, receiving, sending, noOpcode, opcodeWord, longWord, endAt, channelWord}
 use Rattle.passing.proofs.Digits.{digits, clean-digits, top-unclean}
-use Rattle.passing.proofs.Limits.{Limit, unnamed-limit, register-limit, target-limit, no-limit, same-end, end-low, end-is}
+use Rattle.passing.proofs.Limits.{Limit, Added, unnamed-limit, below-limit, register-added, unnamed-added, same-end, end-low, end-is, end-none}
 
--- ---- the digits' tests in the order of the fields
-plain-order : (a b c : Bool) → (a && (c && (b && true))) ≡ (a && b && c)
-plain-order false b c = refl
-plain-order true false false = refl
-plain-order true false true = refl
-plain-order true true false = refl
-plain-order true true true = refl
+-- ---- three tests
+-- the digits' tests in the order of the fields
+order : (a c e f : Bool) → (e && (a && (c && f))) ≡ (a && (e && f) && c)
+order false c false f = refl
+order false c true f = refl
+order true false false f = refl
+order true false true f = sym (and-false f)
+order true true false f = refl
+order true true true f = sym (and-true f)
 
-receives-order : (a c e f : Bool) → (e && (a && (f && (c && true)))) ≡ (a && (e && f) && c)
-receives-order false c false f = refl
-receives-order false c true f = refl
-receives-order true c false f = refl
-receives-order true c true false = refl
-receives-order true c true true = and-true c
-
-sends-order : (a c e f : Bool) → (a && (c && (e && f))) ≡ (a && (e && f) && c)
-sends-order false c e f = refl
-sends-order true false e f = sym (and-false (e && f))
-sends-order true true e f = sym (and-true (e && f))
+-- the second fails
+second-fails : (a c : Bool) → (a && false && c) ≡ false
+second-fails false c = refl
+second-fails true c = refl
 
 -- ---- by a number
 -- a family at each number below k
-abbrev Below : ℕ → (ℕ → Type 0) → Type 0
+abbrev pub Below : ℕ → (ℕ → Type 0) → Type 0
 Below zero P = Unit
 Below (suc k) P = P 0 × Below k (λ n. P (suc n))
 
-by-number : (k : ℕ) (P : ℕ → Type 0) → Below k P → (o : ℕ) → (k ≤ o → P o) → P o
+pub by-number : (k : ℕ) (P : ℕ → Type 0) → Below k P → (o : ℕ) → (k ≤ o → P o) → P o
 by-number zero P below o rest = rest zero-le
 by-number (suc k) P below zero rest = below .0
 by-number (suc k) P below (suc o) rest = by-number k (λ n. P (suc n)) (below .1) o (λ h. rest (suc-le-suc h))
@@ -55,114 +51,203 @@ fields-none : (count : ℕ) (receives sends : Bool) (i : Instruction) → 14 ≤
 unfolding fieldsRight
 fields-none count receives sends i h = rw List·getD-eq-default
 
--- ---- a sum whose opcode o has the word w; r and s are the ends of the channel that the field b names
-abbrev sum : ℕ → ℕ → ℕ → Instruction → ℕ
-sum w r s i = weighed i + w + (1099511562240 * i .b + half r + 8589934592 * half s)
+-- ---- a sum whose opcode has the word w; r and s are the ends of the channel that the field b names
+-- what is added for b
+abbrev word : ℕ → ℕ → ℕ → ℕ
+word r s b = cond (ltb b 32) (short + receiving r + sending s + 0xFFFFFF0000 * b) (longWord b)
 
-module _ (a b c r s : ℕ) (ha : a < 256) (hb : b < 256) (hc : c < 256) (hr : r ≤ 31) (hs : s ≤ 31) where
+abbrev sum : ℕ → ℕ → ℕ → Instruction → ℕ
+sum w r s i = weighed i + w + word r s (i .b)
+
+long-low : (b : ℕ) → longWord b ≤ 0x1FF800000
+long-low b = go (ltb b 128)
+  where
+    go : (lower : Bool) → cond lower 0 0x1FF800000 ≤ 0x1FF800000
+    go true = omega arith
+    go false = omega arith
+
+module _ (a b c r s : ℕ) (ha : a < 256) (hb : b < 256) (hc : c < 256) (hr : r ≤ 30) (hs : s ≤ 30) where
   abbrev at : ℕ → Instruction
   at o = record { op = o; a = a; b = b; c = c }
 
-  -- the word asks for no process: the digits of both ends are clean
-  plain : {A B C : ℕ} {fa fb fc : Bool} (o w : ℕ) → Limit a A fa → Limit b B fb → Limit c C fc → w + o ≡ room A B C
+  short-word : b < 32 → word r s b ≡ short + receiving r + sending s + 0xFFFFFF0000 * b
+  short-word h = rw (lt-ltb b 32 h)
+
+  long-word : 32 ≤ b → word r s b ≡ longWord b
+  long-word h = rw (le-ltb b 32 h)
+
+  -- the opcode asks for a short b, and b is not: the top digit is 3
+  long : (o w v : ℕ) → 32 ≤ b → v < 0x1000000000000000 → w + o ≡ asked + v → clean flags (sum w r s (at o)) ≡ false
+  long o w v h l e =
+      let k : word r s b ≤ 0x1FF800000 = rw (long-word h) (long-low b) in
+      let low : ℕ = v + 256 * a + 0x10000 * b + 0x1000000 * c + word r s b in
+      let q : sum w r s (at o) ≡ low + 0x2000000000000000 * 3 = omega arith in
+      ap (clean flags) q ∙ top-unclean low 3 (omega arith) refl
+
+  -- it is that of no opcode: the top digit is 3 or, where b is not short, 2
+  none : (o : ℕ) → o < 256 → clean flags (sum noOpcode r s (at o)) ≡ false
+  none o h = go (decLt b 32)
+    where
+      go : Dec (b < 32) → clean flags (sum noOpcode r s (at o)) ≡ false
+      go (yes l) =
+          let k = short-word l in
+          let low : ℕ = weighed (at o) + 0x40404040404040 + receiving r + sending s + 0xFFFFFF0000 * b in
+          let q : sum noOpcode r s (at o) ≡ low + 0x2000000000000000 * 3 = omega arith in
+          ap (clean flags) q ∙ top-unclean low 3 (omega arith) refl
+      go (no l) =
+          let k : word r s b ≤ 0x1FF800000 = rw (long-word (omega arith)) (long-low b) in
+          let low : ℕ = weighed (at o) + 0x40404040404040 + word r s b in
+          let q : sum noOpcode r s (at o) ≡ low + 0x2000000000000000 * 2 = omega arith in
+          ap (clean flags) q ∙ top-unclean low 2 (omega arith) refl
+
+  -- it asks for a short b, and adds x and x' to the receiver's digits, y and y' to the sender's: what is asked of b and of the ends is one test
+  asks : {A C : ℕ} {fa fb fc : Bool} (o w B x x' y y' : ℕ) → Added a A fa → Limit 256 c C fc → B < 64 → x ≤ 31 → x' ≤ 31 → y ≤ 31 → y' ≤ 31
+      → w + o ≡ asked + (room A B C + x + 0x1000000000000 * x' + 0x200000000 * y + 0x40000000000000 * y')
+      → (32 ≤ b → fb ≡ false)
+      → (b < 32 → (ltb (r + x) 32 && (ltb (s + y) 32 && (ltb (b + B) 64 && (ltb (31 - r + x') 32 && (ltb (31 - s + y') 32 && true))))) ≡ fb)
       → clean flags (sum w r s (at o)) ≡ (fa && fb && fc)
-  plain {A} {B} {C} {fa} {fb} {fc} o w la lb lc e =
-      let q : sum w r s (at o) ≡ digits r (a + A) (31 - r) (c + C) s (b + B) (31 - s) = omega arith in
-      ap (clean flags) q
-      ∙ clean-digits r (a + A) (31 - r) (c + C) s (b + B) (31 - s)
-      (omega arith) (omega arith) (omega arith) (omega arith) (omega arith) (omega arith) (omega arith)
-      ∙ rw (
-        lt-ltb r 32 (omega arith),
-        lt-ltb (31 - r) 32 (omega arith),
-        lt-ltb s 32 (omega arith),
-        lt-ltb (31 - s) 32 (omega arith),
-        la .within,
+  asks {A} {C} {fa} {fb} {fc} o w B x x' y y' la lc hB hx hx' hy hy' e far near = go (decLt b 32)
+    where
+      go : Dec (b < 32) → clean flags (sum w r s (at o)) ≡ (fa && fb && fc)
+      go (yes h) =
+          let k = short-word h in
+          let others : Bool = ltb (s + y) 32 && (ltb (b + B) 64 && (ltb (31 - r + x') 32 && (ltb (31 - s + y') 32 && true))) in
+          let q : sum w r s (at o) ≡ digits (r + x) (a + A) (c + C) (s + y) (b + B) (31 - r + x') (31 - s + y') 4 = omega arith in
+          ap (clean flags) q
+          ∙ clean-digits (r + x) (a + A) (c + C) (s + y) (b + B) (31 - r + x') (31 - s + y') 4
+          (omega arith) (la .small) (omega arith) (omega arith) (omega arith) (omega arith) (omega arith)
+          ∙ rw (la .within, lc .within) (order fa fc (ltb (r + x) 32) others)
+          ∙ ap (λ (t : Bool). fa && t && fc) (near h)
+      go (no h) =
+          let l : 32 ≤ b = omega arith in
+          long o w (room A B C + x + 0x1000000000000 * x' + 0x200000000 * y + 0x40000000000000 * y') l (omega arith) e
+          ∙ sym (rw (far l) (second-fails fa fc))
+
+  -- it asks for no process: the digits of both ends are clean
+  plain : {A B C : ℕ} {fa fb fc : Bool} (o w : ℕ) → Added a A fa → Limit 64 b B fb → Limit 256 c C fc → 32 ≤ B → w + o ≡ asked + room A B C
+      → clean flags (sum w r s (at o)) ≡ (fa && fb && fc)
+  plain {A} {B} {C} {fa} {fb} {fc} o w la lb lc l e =
+      asks o w B 0 0 0 0 la lc (lb .small) (omega arith) (omega arith) (omega arith) (omega arith) (omega arith)
+      (λ h. sym (lb .within) ∙ le-ltb (b + B) 64 (omega arith))
+      (λ h. rw (
+        lt-ltb (r + 0) 32 (omega arith),
+        lt-ltb (s + 0) 32 (omega arith),
+        lt-ltb (31 - r + 0) 32 (omega arith),
+        lt-ltb (31 - s + 0) 32 (omega arith),
         lb .within,
-        lc .within,
-      ) (plain-order fa fb fc)
+      ) (and-true fb))
 
   -- it asks that the receiver is p
-  receives : {A C : ℕ} {fa fc : Bool} (o w p : ℕ) → Limit a A fa → Limit c C fc → p < 16 → w + o ≡ room A 0 C + half (31 - p)
+  receives : {A C : ℕ} {fa fc : Bool} (o w p : ℕ) → Added a A fa → Limit 256 c C fc → p < 16 → (32 ≤ b → r ≡ 30)
+      → w + o ≡ asked + (room A 0 C + receiving (31 - p))
       → clean flags (sum w r s (at o)) ≡ (fa && eqb r p && fc)
-  receives {A} {C} {fa} {fc} o w p la lc hp e =
-      let q : sum w r s (at o) ≡ digits (r + (31 - p)) (a + A) (31 - r + p) (c + C) s (b + 0) (31 - s) = omega arith in
-      ap (clean flags) q
-      ∙ clean-digits (r + (31 - p)) (a + A) (31 - r + p) (c + C) s (b + 0) (31 - s)
-      (omega arith) (omega arith) (omega arith) (omega arith) (omega arith) (omega arith) (omega arith)
-      ∙ rw (
-        lt-ltb s 32 (omega arith),
-        lt-ltb (31 - s) 32 (omega arith),
-        no-limit b hb .within,
-        la .within,
-        lc .within,
-        ← same-end r p hr (omega arith),
-      ) (receives-order fa fc (ltb (r + (31 - p)) 32) (ltb (31 - r + p) 32))
+  receives o w p la lc hp outside e =
+      asks o w 0 (31 - p) p 0 0 la lc (omega arith) (omega arith) (omega arith) (omega arith) (omega arith) (omega arith)
+      (λ h. let n = outside h in ne-eqb r p (omega arith))
+      (λ h. rw (
+        lt-ltb (s + 0) 32 (omega arith),
+        lt-ltb (b + 0) 64 (omega arith),
+        lt-ltb (31 - s + 0) 32 (omega arith),
+        and-true (ltb (31 - r + p) 32),
+      ) (same-end r p (omega arith) (omega arith)))
 
   -- it asks that the sender is p
-  sends : {A C : ℕ} {fa fc : Bool} (o w p : ℕ) → Limit a A fa → Limit c C fc → p < 16 → w + o ≡ room A 0 C + 8589934592 * half (31 - p)
+  sends : {A C : ℕ} {fa fc : Bool} (o w p : ℕ) → Added a A fa → Limit 256 c C fc → p < 16 → (32 ≤ b → s ≡ 30)
+      → w + o ≡ asked + (room A 0 C + sending (31 - p))
       → clean flags (sum w r s (at o)) ≡ (fa && eqb s p && fc)
-  sends {A} {C} {fa} {fc} o w p la lc hp e =
-      let q : sum w r s (at o) ≡ digits r (a + A) (31 - r) (c + C) (s + (31 - p)) (b + 0) (31 - s + p) = omega arith in
-      ap (clean flags) q
-      ∙ clean-digits r (a + A) (31 - r) (c + C) (s + (31 - p)) (b + 0) (31 - s + p)
-      (omega arith) (omega arith) (omega arith) (omega arith) (omega arith) (omega arith) (omega arith)
-      ∙ rw (
-        lt-ltb r 32 (omega arith),
-        lt-ltb (31 - r) 32 (omega arith),
-        no-limit b hb .within,
-        la .within,
-        lc .within,
-        ← same-end s p hs (omega arith),
-      ) (sends-order fa fc (ltb (s + (31 - p)) 32) (ltb (31 - s + p) 32))
+  sends o w p la lc hp outside e =
+      asks o w 0 0 0 (31 - p) p la lc (omega arith) (omega arith) (omega arith) (omega arith) (omega arith) (omega arith)
+      (λ h. let n = outside h in ne-eqb s p (omega arith))
+      (λ h. rw (
+        lt-ltb (r + 0) 32 (omega arith),
+        lt-ltb (b + 0) 64 (omega arith),
+        lt-ltb (31 - r + 0) 32 (omega arith),
+        and-true (ltb (31 - s + p) 32),
+      ) (same-end s p (omega arith) (omega arith)))
 
-  -- it is that of no opcode: the top digit is 64 and more
-  none : (o : ℕ) → o < 256 → clean flags (sum noOpcode r s (at o)) ≡ false
-  none o h =
-      let low : ℕ = r + 131072 * (31 - r) + 8589934592 * s + o + 256 * a + 16777216 * c + 1099511627776 * b + 282578800148737 in
-      let q : sum noOpcode r s (at o) ≡ low + 1125899906842624 * (64 + (31 - s)) = omega arith in
-      ap (clean flags) q ∙ top-unclean low (64 + (31 - s)) (omega arith) (omega arith) (omega arith)
+  -- opcode 1, whose word is zero, takes any b and c: of these digits a's alone can be unclean
+  free : (d0 above d3 d4 d5 d6 d7 : ℕ) → d0 < 32 → above < 128 → d3 < 32 → d4 < 64 → d5 < 32 → d6 < 32 → clean 2 d7 ≡ true
+      → clean flags (digits d0 (a + 256 * above) c d3 d4 d5 d6 d7) ≡ register a
+  free d0 above d3 d4 d5 d6 d7 h0 l h3 h4 h5 h6 h7 =
+      let la = register-added a above ha l in
+      clean-digits d0 (a + 256 * above) c d3 d4 d5 d6 d7
+      (omega arith) (la .small) (omega arith) (omega arith) (omega arith) (omega arith) (omega arith)
+      ∙ rw (lt-ltb d0 32 h0, la .within, lt-ltb c 256 hc, lt-ltb d3 32 h3, lt-ltb d4 64 h4, lt-ltb d5 32 h5, lt-ltb d6 32 h6, h7) (and-true (register a))
+
+  put : clean flags (sum 0 r s (at 1)) ≡ register a
+  put = go (decLt b 32) (decLt b 128)
+    where
+      go : Dec (b < 32) → Dec (b < 128) → clean flags (sum 0 r s (at 1)) ≡ register a
+      go (yes h) l =
+          let k = short-word h in
+          let q : sum 0 r s (at 1) ≡ digits (r + 1) (a + 256 * 0) c s b (31 - r) (31 - s) 1 = omega arith in
+          ap (clean flags) q ∙ free (r + 1) 0 s b (31 - r) (31 - s) 1 (omega arith) (omega arith) (omega arith) (omega arith) (omega arith) (omega arith) refl
+      go (no h) (yes l) =
+          let k = long-word (omega arith) in
+          let m : longWord b ≡ 0 = rw (lt-ltb b 128 l) in
+          let q : sum 0 r s (at 1) ≡ digits 1 (a + 256 * b) c 0 0 0 0 0 = omega arith in
+          ap (clean flags) q ∙ free 1 b 0 0 0 0 0 (omega arith) l (omega arith) (omega arith) (omega arith) (omega arith) refl
+      go (no h) (no l) =
+          let k = long-word (omega arith) in
+          let m : longWord b ≡ 0x1FF800000 = rw (le-ltb b 128 (omega arith)) in
+          let q : sum 0 r s (at 1) ≡ digits 1 (a + 256 * (b - 128)) c 1 0 0 0 0 = omega arith in
+          ap (clean flags) q ∙ free 1 (b - 128) 1 0 0 0 0 (omega arith) (omega arith) (omega arith) (omega arith) (omega arith) (omega arith) refl
 
   -- ---- the opcodes in turn
-  module _ (count p : ℕ) (hp : p < 16) (low : 1 ≤ count) (high : count ≤ 256) where
+  module _ (count p : ℕ) (hp : p < 16) (low : 1 ≤ count) (high : count ≤ 256) (nr : 32 ≤ b → r ≡ 30) (ns : 32 ≤ b → s ≡ 30) where
     abbrev Right : ℕ → Type 0
     Right o = clean flags (sum (opcodeWord count p o) r s (at o)) ≡ fieldsRight count (eqb r p) (eqb s p) (at o)
 
-    -- 1, whose number b, c has no limit
-    put : clean flags (sum (room 248 0 0 - 1) r s (at 1)) ≡ register a
-    put =
-        plain 1 (room 248 0 0 - 1) (register-limit a) (no-limit b hb) (no-limit c hc) refl
-        ∙ and-true (register a && true)
-        ∙ and-true (register a)
+    -- the limits: a register and no field, in each of the three
+    a-register : Added a 0 (register a)
+    a-register = register-added a 0 ha (omega arith)
+
+    a-unnamed : Added a noField (unnamed a)
+    a-unnamed = unnamed-added a ha
+
+    b-register : Limit 64 b 56 (register b)
+    b-register = below-limit 64 b 8 (omega arith) (omega arith)
+
+    b-unnamed : Limit 64 b 63 (unnamed b)
+    b-unnamed = unnamed-limit 64 b (omega arith)
+
+    c-register : Limit 256 c 248 (register c)
+    c-register = below-limit 256 c 8 (omega arith) (omega arith)
+
+    c-unnamed : Limit 256 c 255 (unnamed c)
+    c-unnamed = unnamed-limit 256 c (omega arith)
+
+    c-target : Limit 256 c (256 - count) (target count c)
+    c-target = below-limit 256 c count low high
 
     -- 3 to 7
-    three : (o : ℕ) → o < 14 → clean flags (sum (room 248 248 248 - o) r s (at o)) ≡ threeRegisters (at o)
-    three o h = plain o (room 248 248 248 - o) (register-limit a) (register-limit b) (register-limit c) (omega arith)
+    three : (o : ℕ) → o < 14 → clean flags (sum (asked + room 0 56 248 - o) r s (at o)) ≡ threeRegisters (at o)
+    three o h = plain o (asked + room 0 56 248 - o) a-register b-register c-register (omega arith) (omega arith)
 
     -- 8 to 10
-    jump : {A : ℕ} {fa : Bool} (o : ℕ) → o < 14 → Limit a A fa
-        → clean flags (sum (room A 255 (256 - count) - o) r s (at o)) ≡ (fa && unnamed b && target count c)
-    jump {A} o h la = plain o (room A 255 (256 - count) - o) la (unnamed-limit b) (target-limit c count low high) (omega arith)
+    jump : {A : ℕ} {fa : Bool} (o : ℕ) → o < 14 → Added a A fa
+        → clean flags (sum (asked + room A 63 (256 - count) - o) r s (at o)) ≡ (fa && unnamed b && target count c)
+    jump {A} o h la = plain o (asked + room A 63 (256 - count) - o) la b-unnamed c-target (omega arith) (omega arith)
 
     -- 11
-    receive : clean flags (sum (room 248 0 (256 - count) + half (31 - p) - 11) r s (at 11)) ≡ (register a && eqb r p && target count c)
-    receive =
-        receives 11 (room 248 0 (256 - count) + half (31 - p) - 11) p (register-limit a) (target-limit c count low high) hp (omega arith)
+    receive : clean flags (sum (asked + room 0 0 (256 - count) + receiving (31 - p) - 11) r s (at 11)) ≡ (register a && eqb r p && target count c)
+    receive = receives 11 (asked + room 0 0 (256 - count) + receiving (31 - p) - 11) p a-register c-target hp nr (omega arith)
 
     -- 12 and 13
-    send : {A : ℕ} {fa : Bool} (o : ℕ) → o < 14 → Limit a A fa
-        → clean flags (sum (room A 0 255 + 8589934592 * half (31 - p) - o) r s (at o)) ≡ (fa && eqb s p && unnamed c)
-    send {A} o h la = sends o (room A 0 255 + 8589934592 * half (31 - p) - o) p la (unnamed-limit c) hp (omega arith)
+    send : {A : ℕ} {fa : Bool} (o : ℕ) → o < 14 → Added a A fa
+        → clean flags (sum (asked + room A 0 255 + sending (31 - p) - o) r s (at o)) ≡ (fa && eqb s p && unnamed c)
+    send {A} o h la = sends o (asked + room A 0 255 + sending (31 - p) - o) p la c-unnamed hp ns (omega arith)
 
     opcodes : Below 14 Right
     unfolding opcodeWord fieldsRight
     opcodes =
-        let from-11 : Below 3 (λ n. Right (11 + n)) = (receive, (send 12 (omega arith) (register-limit a), (send 13 (omega arith) (unnamed-limit a), tt))) in
-        let from-9 : Below 5 (λ n. Right (9 + n)) = (jump 9 (omega arith) (register-limit a), (jump 10 (omega arith) (register-limit a), from-11)) in
-        let from-7 : Below 7 (λ n. Right (7 + n)) = (three 7 (omega arith), (jump 8 (omega arith) (unnamed-limit a), from-9)) in
+        let from-11 : Below 3 (λ n. Right (11 + n)) = (receive, (send 12 (omega arith) a-register, (send 13 (omega arith) a-unnamed, tt))) in
+        let from-9 : Below 5 (λ n. Right (9 + n)) = (jump 9 (omega arith) a-register, (jump 10 (omega arith) a-register, from-11)) in
+        let from-7 : Below 7 (λ n. Right (7 + n)) = (three 7 (omega arith), (jump 8 (omega arith) a-unnamed, from-9)) in
         let from-5 : Below 9 (λ n. Right (5 + n)) = (three 5 (omega arith), (three 6 (omega arith), from-7)) in
         let from-3 : Below 11 (λ n. Right (3 + n)) = (three 3 (omega arith), (three 4 (omega arith), from-5)) in
-        let copy : Right 2 = plain 2 (room 248 248 255 - 2) (register-limit a) (register-limit b) (unnamed-limit c) refl in
-        let stop : Right 0 = plain 0 (room 255 255 255) (unnamed-limit a) (unnamed-limit b) (unnamed-limit c) refl in
+        let copy : Right 2 = plain 2 (asked + room 0 56 255 - 2) a-register b-register c-unnamed (omega arith) refl in
+        let stop : Right 0 = plain 0 (asked + room noField 63 255) a-unnamed b-unnamed c-unnamed (omega arith) refl in
         (stop, (put, (copy, from-3)))
 
     right : (o : ℕ) → o < 256 → Right o
@@ -172,23 +257,28 @@ module _ (a b c r s : ℕ) (ha : a < 256) (hb : b < 256) (hc : c < 256) (hr : r 
 
 -- ---- the laws
 pub clean-right : (receiver sender : List ℕ) (channels count p : ℕ) (i : Instruction) → i .op < 256 → i .a < 256 → i .b < 256 → i .c < 256 → p < 16
-    → 1 ≤ count → count ≤ 256
+    → 1 ≤ count → count ≤ 256 → channels ≤ 32
     → clean flags (weighed i + opcodeWord count p (i .op) + channelWord receiver sender channels (i .b))
     ≡ fieldsRight count (ltb (i .b) channels && eqb (getD receiver (i .b) 0) p) (ltb (i .b) channels && eqb (getD sender (i .b) 0) p) i
 unfolding channelWord
-clean-right receiver sender channels count p i ho ha hb hc hp low high =
+clean-right receiver sender channels count p i ho ha hb hc hp low high few =
     right (i .a) (i .b) (i .c) (endAt receiver channels (i .b)) (endAt sender channels (i .b)) ha hb hc
-    (end-low receiver channels (i .b)) (end-low sender channels (i .b)) count p hp low high (i .op) ho
+    (end-low receiver channels (i .b)) (end-low sender channels (i .b)) count p hp low high
+    (λ h. end-none receiver channels (i .b) (omega arith)) (λ h. end-none sender channels (i .b) (omega arith)) (i .op) ho
     ∙ ap₂ (λ (x y : Bool). fieldsRight count x y i) (end-is receiver channels (i .b) p hp) (end-is sender channels (i .b) p hp)
 
-pub channel-small : (receiver sender : List ℕ) (channels b : ℕ) → b < 256 → channelWord receiver sender channels b < 144115188075855872
+pub channel-small : (receiver sender : List ℕ) (channels b : ℕ) → channelWord receiver sender channels b < 0x7000000000000000
 unfolding channelWord
-channel-small receiver sender channels b h = omega (arith, end-low receiver channels b, end-low sender channels b)
+channel-small receiver sender channels b = go (decLt b 32)
+  where
+    go : Dec (b < 32) → word (endAt receiver channels b) (endAt sender channels b) b < 0x7000000000000000
+    go (yes h) = rw (lt-ltb b 32 h) (omega (arith, end-low receiver channels b, end-low sender channels b))
+    go (no h) = rw (le-ltb b 32 (omega arith)) (omega (arith, long-low b))
 
-opcodes-small : (count p : ℕ) → p < 16 → Below 14 (λ o. opcodeWord count p o < 144115188075855872)
+opcodes-small : (count p : ℕ) → p < 16 → Below 14 (λ o. opcodeWord count p o < 0x7000000000000000)
 unfolding opcodeWord
 opcodes-small count p h = omega arith
 
-pub opcode-small : (count p o : ℕ) → p < 16 → opcodeWord count p o < 144115188075855872
+pub opcode-small : (count p o : ℕ) → p < 16 → opcodeWord count p o < 0x7000000000000000
 opcode-small count p o h =
-    by-number 14 (λ n. opcodeWord count p n < 144115188075855872) (opcodes-small count p h) o (λ l. rw (opcode-none count p o l) (omega arith))
+    by-number 14 (λ n. opcodeWord count p n < 0x7000000000000000) (opcodes-small count p h) o (λ l. rw (opcode-none count p o l) (omega arith))

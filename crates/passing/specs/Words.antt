@@ -3,7 +3,6 @@
 -- the next power of two, so that a field beyond its limit carries into a digit that is otherwise zero, a flag. The contracts of
 -- the private functions cite this; that of `passes` does not.
 -- Assumes nothing.
-use mathlib.Core.Path.{_≡_}
 use mathlib.Core.Bool.{Bool, cond}
 use mathlib.Core.List.{List, [], _∷_}
 use Prim.Native.Nat.{ℕ, _+_, _-_, _*_, _≤_, _<_, min}
@@ -26,70 +25,86 @@ abbrev pub sumAt : List ℕ → List ℕ → List ℕ → ℕ → ℕ
 sumAt code opcodes channels i =
     weighed (instructionAt code i) + getD opcodes (instructionAt code i .op) 0 + getD channels (instructionAt code i .b) 0
 
--- the flags, binary digits 5, 16, 22, 32, 38, 48, 55 and 56. The fields between them: from digit 0 the channel's receiver against the process, from 8
--- the field a, from 17 the receiver again, the other way about, from 24 c, from 33 the sender, from 40 b, from 50 the sender again
+-- the flags, binary digits 5, 11 to 15, 23, 32, 38, 46, 53, 59 and 62. The fields between them: from digit 0 the channel's receiver against the process,
+-- from 8 the field a, from 24 c, from 33 the sender, from 40 b, from 48 the receiver again, the other way about, from 54 the sender again, and from 61
+-- whether b is short, below 32, where the opcode asks for that
 abbrev pub flags : ℕ
-flags = 0x0181004100410020
+flags = 0x482040410080F820
 
 abbrev pub cleanAt : List ℕ → List ℕ → List ℕ → ℕ → Bool
 cleanAt code opcodes channels i = clean flags (sumAt code opcodes channels i)
 
 -- a table whose entries leave room for the sum
 abbrev pub Small : List ℕ → Type 0
-Small words = (k : ℕ) → getD words k 0 < 0x200000000000000
+Small words = (k : ℕ) → getD words k 0 < 0x7000000000000000
 
 -- ---- by the opcode
--- what is missing above the fields a, b and c
+-- what is added to the fields a, b and c
 abbrev pub room : ℕ → ℕ → ℕ → ℕ
 room a b c = 256 * a + 0x1000000 * c + 0x10000000000 * b
 
--- a number and what it lacks to 31, in digits of their own. The digits of a process and those of a channel's end carry, the first if the end's number is
--- the higher, the second if it is the lower
-abbrev pub half : ℕ → ℕ
-half e = e + 0x20000 * (31 - e)
+-- what is added to a field a that must be zero: seven, so that 1 and more reach the flags from digit 11 on, and seven ones above the field, so that a carry
+-- out of it reaches the flag at 23. To one that must be below 8 nothing is added
+abbrev pub noField : ℕ
+noField = 0x7F07
 
--- what is added where the opcode is none: a flag, and digits that make no difference
+-- all opcodes but 1 ask for a short b, and add three; a short b adds one. Four leaves digit 62 clear, three does not
+abbrev pub asked : ℕ
+asked = 0x6000000000000000
+
+abbrev pub short : ℕ
+short = 0x2000000000000000
+
+-- a number and what it lacks to 31, in digits of their own, as receiver and as sender. The digits of a process and those of a channel's end carry, the
+-- first if the end's number is the higher, the second if it is the lower
+abbrev pub receiving : ℕ → ℕ
+receiving e = e + 0x1000000000000 * (31 - e)
+
+abbrev pub sending : ℕ → ℕ
+sending e = 0x200000000 * e + 0x40000000000000 * (31 - e)
+
+-- what is added where the opcode is none: two from digit 61 on, which is a flag whether b is short or not, and digits that make no difference
 abbrev pub noOpcode : ℕ
-noOpcode = 0x0101010101010101
+noOpcode = 0x4040404040404040
 
--- what the opcode o adds in process p, which has so many instructions: limits of 0, 7 and 255 leave 255, 248 and 0, a target leaves 256 less the count.
--- The opcode itself is taken off
+-- what the opcode o adds in process p, which has so many instructions. In b limits of 0 and 7 leave 63 and 56, in c 255 and 248, a target leaves 256 less
+-- the count. The opcode itself is taken off, but for opcode 1
 unfoldable pub opcodeWord : ℕ → ℕ → ℕ → ℕ
 opcodeWord count p o =
     getD (
-    room 255 255 255
-    ∷ (room 248 0 0 - 1)
-    ∷ (room 248 248 255 - 2)
-    ∷ (room 248 248 248 - 3)
-    ∷ (room 248 248 248 - 4)
-    ∷ (room 248 248 248 - 5)
-    ∷ (room 248 248 248 - 6)
-    ∷ (room 248 248 248 - 7)
-    ∷ (room 255 255 (256 - count) - 8)
-    ∷ (room 248 255 (256 - count) - 9)
-    ∷ (room 248 255 (256 - count) - 10)
-    ∷ (room 248 0 (256 - count) + half (31 - p) - 11)
-    ∷ (room 248 0 255 + 0x200000000 * half (31 - p) - 12)
-    ∷ (room 255 0 255 + 0x200000000 * half (31 - p) - 13)
+    (asked + room noField 63 255)
+    ∷ 0
+    ∷ (asked + room 0 56 255 - 2)
+    ∷ (asked + room 0 56 248 - 3)
+    ∷ (asked + room 0 56 248 - 4)
+    ∷ (asked + room 0 56 248 - 5)
+    ∷ (asked + room 0 56 248 - 6)
+    ∷ (asked + room 0 56 248 - 7)
+    ∷ (asked + room noField 63 (256 - count) - 8)
+    ∷ (asked + room 0 63 (256 - count) - 9)
+    ∷ (asked + room 0 63 (256 - count) - 10)
+    ∷ (asked + room 0 0 (256 - count) + receiving (31 - p) - 11)
+    ∷ (asked + room 0 0 255 + sending (31 - p) - 12)
+    ∷ (asked + room noField 0 255 + sending (31 - p) - 13)
     ∷ []
     ) o noOpcode
 
--- a table that has what does not differ from process to process: all but the words of 8 to 13
-abbrev pub Steady : List ℕ → Type 0
-Steady words = (k : ℕ) → k < 256 → (8 ≤ k → k < 14 → ⊥) → getD words k 0 ≡ opcodeWord 1 0 k
+-- ---- by the field b
+-- a b that is not short keeps its place, from digit 16 on; from 128 on its highest digit, which is a flag, is taken off
+abbrev pub longWord : ℕ → ℕ
+longWord b = cond (ltb b 128) 0 0x1FF800000
 
--- ---- by the field b, which is taken off where it stands and put on from digit 40
--- b where it is no channel: 31, which is no process, at both ends
+-- a short b is taken off where it stands and put on from digit 40. Where it is no channel it has 30, which is no process, at both ends
 abbrev pub plainWord : ℕ → ℕ
-plainWord b = 0x3E0000001F + 0xFFFFFF0000 * b
+plainWord b = cond (ltb b 32) (short + receiving 30 + sending 30 + 0xFFFFFF0000 * b) (longWord b)
 
--- the process at an end of channel b, 31 if there is none
+-- the process at an end of channel b, 30 if there is none
 abbrev pub endAt : List ℕ → ℕ → ℕ → ℕ
-endAt ends channels b = cond (ltb b channels) (min (getD ends b 0) 31) 31
+endAt ends channels b = cond (ltb b channels) (min (getD ends b 0) 30) 30
 
 unfoldable pub channelWord : List ℕ → List ℕ → ℕ → ℕ → ℕ
 channelWord receiver sender channels b =
-    0xFFFFFF0000 * b + half (endAt receiver channels b) + 0x200000000 * half (endAt sender channels b)
+    cond (ltb b 32) (short + receiving (endAt receiver channels b) + sending (endAt sender channels b) + 0xFFFFFF0000 * b) (longWord b)
 
 -- ---- where the processes stand
 -- each process below n has 1 to 256 instructions, all within the code

@@ -153,25 +153,27 @@ fn code_right<'a>(
     ensures { λ r. ⌜ ((net : Network) → net .code ≡ now (code .entry) → net .first ≡ now (first .entry) → net .count ≡ now (count .entry) → net .processes ≡ processes → net .receiver ≡ now (receiver .entry) → net .sender ≡ now (sender .entry) → net .channels ≡ channels → r ≡ isGood (instructions net)) ⌝ }
 {
     let mut ends = [0u64; 256];
+    words::long_words(&mut ends);
     words::plain_words(&mut ends);
     words::channel_words(&mut ends, receiver, sender, channels);
-    let mut opcodes = [0x0101010101010101u64; 256];
+    let mut opcodes = [0x4040404040404040u64; 256];
     words::opcode_words(&mut opcodes);
     let mut all: u64 = 0;
     let mut last: u8 = 0;
-    let mut mine: u64 = 31;
+    let mut before: u64 = 256;
     let mut p: usize = 0;
     while p < processes {
         let start = first[p] as usize;
         let n = count[p] as usize;
-        words::set_words(&mut opcodes, n as u64, mine);
+        words::count_words(&mut opcodes, p, before, n as u64);
         all = all | sums::run(code, &opcodes, &ends, start, n);
         let end = start + n;
         last = last | opcode_at(code, 4 * end - 4);
-        mine += 0x1FFFF;
+        words::next_words(&mut opcodes, p, n as u64);
+        before = n as u64;
         p += 1;
     }
-    all & 0x0181004100410020 == 0 && last & 247 == 0
+    all & 0x482040410080F820 == 0 && last & 247 == 0
 }
 
 // Whether a network passes the file's rules. The numbers of processes and channels and the slots are tested first, so that each place read is there.

@@ -1,10 +1,10 @@
 -- `passing::code_right` meets its contract. The loop's invariant: the words laid over one another have the answers of the processes passed, and the table
--- by the opcode has what does not differ from process to process.
+-- by the opcode is that of process p, if it had as many instructions as the process before.
 -- Assumes nothing.
 use mathlib.Core.Path.{_≡_, refl, sym, ap, ap₂, _∙_}
 use mathlib.Core.Bool.{Bool, false, _&&_}
 use mathlib.Core.List.{List}
-use Prim.Native.Nat.{ℕ, _+_, _-_, _*_, _≤_}
+use Prim.Native.Nat.{ℕ, _+_, _-_, _≤_, _<_}
 use borrow.Author.Needs.{needs}
 use borrow.Author.Tests.{eq-eqb, ne-eqb}
 use lib.ListN.{getD}
@@ -13,22 +13,22 @@ use Rattle.base.specs.Lists.{table}
 use Rattle.base.specs.Tests.{firstBad, isGood}
 use Rattle.network.specs.declared.Network.{Network}
 use Rattle.network.specs.Rules.{instructions}
-use Rattle.passing.specs.Words.{clean, flags, cleanAt, opcodeWord, Steady}
+use Rattle.passing.specs.Words.{clean, flags, cleanAt, opcodeWord}
 use Rattle.passing.proofs.Clean.{Tells, laid, one, none}
 use Rattle.passing.proofs.Codes.{allRight, lastRight, sums-clean, of-all}
-use Rattle.passing.proofs.Lasts.{clean-last, table-steady, table-small}
+use Rattle.passing.proofs.Lasts.{clean-last, table-small}
 use Rattle.passing.proofs.Right.{opcode-small, channel-small}
 use Rattle.passing.proofs.code_right.Statement.{statement}
 use Rattle.passing.proofs.code_right.Tie as tie
 
 abbrev Inv-loop : tie.InvT-loop
-Inv-loop code first count processes receiver sender channels ends opcodes₀ all₀ last₀ mine₀ p₀ opcodes all last mine p =
-    (p ≤ processes) × Steady opcodes × (mine ≡ 31 + 131071 * p)
+Inv-loop code first count processes receiver sender channels ends opcodes₀ all₀ last₀ before₀ p₀ opcodes all last before p =
+    (p ≤ processes) × (before ≤ 256) × (opcodes ≡ table 256 (opcodeWord before p))
     × Tells flags (allRight code first count receiver sender channels) 0 p all
     × Tells 247 (lastRight code first count) 0 p last
 
 abbrev μ-loop : tie.MeasureT-loop
-μ-loop code first count processes receiver sender channels ends opcodes₀ all₀ last₀ mine₀ p₀ opcodes all last mine p =
+μ-loop code first count processes receiver sender channels ends opcodes₀ all₀ last₀ before₀ p₀ opcodes all last before p =
     processes - p
 
 -- the tests of process p
@@ -38,8 +38,11 @@ fields c = allRight (c .args .code .now) (c .args .first .now) (c .args .count .
 abbrev lasts : (c : tie.Start Inv-loop μ-loop) → ℕ → Bool
 lasts c = lastRight (c .args .code .now) (c .args .first .now) (c .args .count .now)
 
+long-words-requires : tie.Need-long-words-requires Inv-loop μ-loop
+long-words-requires c κs = refl
+
 plain-words-requires : tie.Need-plain-words-requires Inv-loop μ-loop
-plain-words-requires c κs = search needs
+plain-words-requires c κs = c .before .long-words .ensures
 
 channel-words-requires : tie.Need-channel-words-requires Inv-loop μ-loop
 channel-words-requires c κs = (omega arith, c .before .plain-words .ensures)
@@ -49,13 +52,16 @@ opcode-words-requires c κs = refl
 
 loop-holds : tie.Need-loop-holds Inv-loop μ-loop
 loop-holds c =
-    let s = c .before .before .before .before .before .before in
-    (omega arith, c .opcode-words .ensures, refl, none flags (fields s) 0 0 refl, none 247 (lasts s) 0 0 refl)
+    let s = c .before .before .before .before .before .before .before .before in
+    (omega arith, omega arith, c .opcode-words .ensures, none flags (fields s) 0 0 refl, none 247 (lasts s) 0 0 refl)
 
 abbrev head : (c : tie.At-loop Inv-loop μ-loop) → tie.Start Inv-loop μ-loop
-head c = c .before .before .before .before .before .before .before
+head c = c .before .before .before .before .before .before .before .before .before
 
--- process p is placed
+-- process p is one of sixteen, and placed
+one-of-16 : (c : tie.In-loop Inv-loop μ-loop) → c .before .loop .p < 16
+one-of-16 c = omega (arith, c .loop-test .taken, head (c .before) .pre .0)
+
 placed : (c : tie.In-loop Inv-loop μ-loop) →
     (1 ≤ getD (head (c .before) .args .count .now) (c .before .loop .p) 0)
     × (getD (head (c .before) .args .count .now) (c .before .loop .p) 0 ≤ 256)
@@ -80,19 +86,11 @@ element-copy-out-n c = search needs
 cast-n : tie.Need-cast-n Inv-loop μ-loop
 cast-n c = let r = placed (c .before .before) in omega arith
 
-set-words-requires : tie.Need-set-words-requires Inv-loop μ-loop
-set-words-requires c κs =
+count-words-requires : tie.Need-count-words-requires Inv-loop μ-loop
+count-words-requires c κs =
     let l = c .before .before .before .before .loop in
     let r = placed (c .before .before .before) in
-    (l .inv .1, r .1, omega arith)
-
--- after the call the table is that of process p
-abbrev lap : (c : tie.After-set-words Inv-loop μ-loop) → tie.At-loop Inv-loop μ-loop
-lap c = c .before .before .before .before .before
-
-words-are : (c : tie.After-set-words Inv-loop μ-loop) →
-    c .set-words .last .0 ≡ table 256 (opcodeWord (getD (head (lap c) .args .count .now) (lap c .loop .p) 0) (lap c .loop .p))
-words-are c = c .set-words .ensures (lap c .loop .p) (omega arith)
+    (one-of-16 (c .before .before .before), l .inv .1, r .1, l .inv .2)
 
 abbrev channel-words-of : (c : tie.At-loop Inv-loop μ-loop) → tie.After-channel-words Inv-loop μ-loop
 channel-words-of c = c .before .before .before
@@ -100,11 +98,10 @@ channel-words-of c = c .before .before .before
 run-requires : tie.Need-run-requires Inv-loop μ-loop
 run-requires c κs =
     let w = c .before .before in
-    let l = lap w in
-    let r = placed (w .before .before .before .before) in (
-      r .2,
-      rw (words-are w) (table-small _ (λ k h. opcode-small _ (l .loop .p) k (omega arith))),
-      rw (channel-words-of l .channel-words .ensures) (table-small _ (λ k h. channel-small _ _ _ k h)),
+    let i = w .before .before .before .before in (
+      placed i .2,
+      rw (w .count-words .ensures) (table-small _ (λ k h. opcode-small _ (i .before .loop .p) k (one-of-16 i))),
+      rw (channel-words-of (i .before) .channel-words .ensures) (table-small _ (λ k h. channel-small _ _ _ k)),
     )
 
 abbrev within : (c : tie.After-run Inv-loop μ-loop) → tie.In-loop Inv-loop μ-loop
@@ -122,8 +119,10 @@ sub-opcode-at c = let r = placed (within (c .before)) in omega arith
 opcode-at-requires : tie.Need-opcode-at-requires Inv-loop μ-loop
 opcode-at-requires c κs = let r = placed (within (c .before)) in omega arith
 
-add-mine : tie.Need-add-mine Inv-loop μ-loop
-add-mine c = search needs
+next-words-requires : tie.Need-next-words-requires Inv-loop μ-loop
+next-words-requires c κs =
+    let r = c .before .before .before in
+    (one-of-16 (within r), placed (within r) .1, r .before .before .before .count-words .ensures)
 
 add-p : tie.Need-add-p Inv-loop μ-loop
 add-p c = search needs
@@ -145,8 +144,8 @@ fields-told c =
     let s = getD (a .first .now) p 0 in
     let n = getD (a .count .now) p 0 in
     r .run .ensures
-    ∙ ap₂ (λ (o e : List ℕ). isGood (firstBad (cleanAt (a .code .now) o e) s n)) (words-are (r .before .before .before)) (channel-words-of l .channel-words .ensures)
-    ∙ sums-clean (a .code .now) (a .first .now) (a .count .now) (a .receiver .now) (a .sender .now) (a .channels) (c .opcode-at .ensures .1) n p (omega arith) (t .0) (t .1) s n
+    ∙ ap₂ (λ (o e : List ℕ). isGood (firstBad (cleanAt (a .code .now) o e) s n)) (r .before .before .before .count-words .ensures) (channel-words-of l .channel-words .ensures)
+    ∙ sums-clean (a .code .now) (a .first .now) (a .count .now) (a .receiver .now) (a .sender .now) (a .channels) (c .opcode-at .ensures .1) n p (one-of-16 (turn c)) (t .0) (t .1) (head l .pre .1) s n
 
 last-told : (c : tie.After-opcode-at Inv-loop μ-loop) → clean 247 (c .opcode-at .result) ≡ lasts (head (turn c .before)) (turn c .before .loop .p)
 last-told c =
@@ -155,16 +154,17 @@ last-told c =
 
 loop-again : tie.Need-loop-again Inv-loop μ-loop
 loop-again c =
-    let r = c .before .before in
-    let l = turn c .before in
+    let o = c .before .before in
+    let r = o .before .before in
+    let l = turn o .before in
     let s = head l in
     let p = l .loop .p in
     let i = l .loop .inv in (
-      omega (arith, turn c .loop-test .taken),
-      rw (words-are (r .before .before .before)) (table-steady _ p),
-      omega arith,
-      laid flags (fields s) 0 p 1 (l .loop .all) (r .run .result) (i .3) (one flags (fields s) (r .run .result) (0 + p) (fields-told c ∙ ap (fields s) (omega arith))),
-      laid 247 (lasts s) 0 p 1 (l .loop .last) (c .opcode-at .result) (i .4) (one 247 (lasts s) (c .opcode-at .result) (0 + p) (last-told c ∙ ap (lasts s) (omega arith))),
+      omega (arith, turn o .loop-test .taken),
+      placed (turn o) .1,
+      c .next-words .ensures,
+      laid flags (fields s) 0 p 1 (l .loop .all) (r .run .result) (i .3) (one flags (fields s) (r .run .result) (0 + p) (fields-told o ∙ ap (fields s) (omega arith))),
+      laid 247 (lasts s) 0 p 1 (l .loop .last) (o .opcode-at .result) (i .4) (one 247 (lasts s) (o .opcode-at .result) (0 + p) (last-told o ∙ ap (lasts s) (omega arith))),
     )
 
 -- past the loop all processes are passed
@@ -199,6 +199,7 @@ code-right-spec =
     (tie.spec
     Inv-loop
     μ-loop
+    long-words-requires
     plain-words-requires
     channel-words-requires
     opcode-words-requires
@@ -209,13 +210,13 @@ code-right-spec =
     mul-n
     element-copy-out-n
     cast-n
-    set-words-requires
+    count-words-requires
     run-requires
     add-end
     mul-opcode-at
     sub-opcode-at
     opcode-at-requires
-    add-mine
+    next-words-requires
     add-p
     loop-less
     loop-again
