@@ -1,33 +1,18 @@
 -- What the numbers of a channel leave in the sums that are laid over one another: one sum is clean of its flags exactly where the capacity is 1 to 256 and
 -- the oldest at most 255, the other where no more is held than the capacity.
 -- Assumes nothing.
-use mathlib.Core.Path.{_≡_, refl, sym, ap, ap₂, _∙_}
-use mathlib.Core.Bool.{Bool, true, _&&_}
-use Prim.Native.Nat.{ℕ, zero, suc, _+_, _-_, _*_, _/_, _%_, _^_, _<_}
+use mathlib.Core.Path.{_≡_, refl, ap, _∙_}
+use mathlib.Core.Bool.{true, _&&_}
+use Prim.Native.Nat.{ℕ, zero, suc, _+_, _-_, _*_, _/_, _%_, _<_}
 use native.Mathlib.Nat.{mod-eq-of-lt}
 use native.Mathlib.Omega.{arith}
-use borrow.Author.Tests.{leb-true, le-leb, eqb-true, eq-eqb, ne-eqb}
-use lib.Bits.{bitAnd, and-block, and-high}
-use lib.Dec.{eqb, leb}
+use borrow.Author.Tests.{leb-true, le-leb, eqb-true, eq-eqb}
+use lib.Bits.{bitAnd, and-high}
+use lib.Dec.{leb}
 use Rattle.base.specs.Tests.{between}
 use Rattle.base.proofs.Conjunction.{iff, between-true, true-between}
 use Rattle.passing.specs.Words.{clean}
-
--- a sum is zero where both parts are
-sum-zero : (x k y : ℕ) → 0 < k → eqb (x * k + y) 0 ≡ (eqb y 0 && eqb x 0)
-sum-zero x k zero h = iff _ _ (λ e. product x (eqb-true _ _ e)) (λ e. rw (eqb-true x 0 e) (eq-eqb (0 * k + 0) 0 (omega arith)))
-  where
-    product : (x : ℕ) → x * k + 0 ≡ 0 → eqb x 0 ≡ true
-    product zero e = refl
-    product (suc x) e = absurd (omega arith)
-sum-zero x k (suc y) h = ne-eqb (x * k + suc y) 0 (λ e. omega arith) ∙ sym (rw (ne-eqb (suc y) 0 (λ e. omega arith)))
-
--- one digit of k binary digits, split off from below
-split-off : (k x d mask flag : ℕ) (low high : Bool) → 0 < 2 ^ k → d < 2 ^ k → flag < 2 ^ k → clean flag d ≡ low → clean mask x ≡ high
-    → clean (mask * 2 ^ k + flag) (x * 2 ^ k + d) ≡ (low && high)
-split-off k x d mask flag low high h l m e f =
-    ap (λ (n : ℕ). eqb n 0) (and-block k x mask d flag l m) ∙ sum-zero (bitAnd x mask) (2 ^ k) (bitAnd d flag) h
-    ∙ ap₂ (λ (a b : Bool). a && b) e f
+use Rattle.passing.proofs.Digits.{split-off}
 
 -- a number of two bytes, whatever stands above it, is clean of the upper one where it is at most 255
 upper : (high d : ℕ) → d < 65536 → clean 0xFF00 (65536 * high + d) ≡ leb d 255

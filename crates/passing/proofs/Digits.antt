@@ -23,7 +23,7 @@ sum-zero x k zero h = iff _ _ (λ e. product x (eqb-true _ _ e)) (λ e. rw (eqb-
 sum-zero x k (suc y) h = ne-eqb (x * k + suc y) 0 (λ e. omega arith) ∙ sym (rw (ne-eqb (suc y) 0 (λ e. omega arith)))
 
 -- one digit of k binary digits, split off from below
-split-off : (k x d mask flag : ℕ) (low high : Bool) → 0 < 2 ^ k → d < 2 ^ k → flag < 2 ^ k → clean flag d ≡ low → clean mask x ≡ high
+pub split-off : (k x d mask flag : ℕ) (low high : Bool) → 0 < 2 ^ k → d < 2 ^ k → flag < 2 ^ k → clean flag d ≡ low → clean mask x ≡ high
     → clean (mask * 2 ^ k + flag) (x * 2 ^ k + d) ≡ (low && high)
 split-off k x d mask flag low high h l m e f =
     ap (λ (n : ℕ). eqb n 0) (and-block k x mask d flag l m) ∙ sum-zero (bitAnd x mask) (2 ^ k) (bitAnd d flag) h
