@@ -34,9 +34,10 @@ fn receiver_ended(lane: Lane, c: usize) -> bool
     requires { ⌜ c < 32 ⌝ }
     ensures { λ r. ⌜ ((cells : List ℤ) → r ≡ receiverEnded c (world lane cells)) ⌝ }
 {
-    let net = lane.network;
-    let e = net.receiver[c] as usize;
-    lane_sound::ended_if(e, lane.processes[e % 16])
+    let receiver = lane.network.receiver;
+    let e = receiver[c] as usize;
+    let processes = lane.processes;
+    lane_sound::ended_if(e, processes[e % 16])
 }
 
 // A channel has no room; one whose receiver has ended is never full.
@@ -115,10 +116,12 @@ fn store(lane: Lane, cells: &mut [i32], c: usize, v: i32, gone: bool) -> Lane
     if gone {
         return lane;
     }
-    let h = lane.channels[c];
+    let mut channels = lane.channels;
+    let h = channels[c];
     cells[lane_picks::slot(c, h, h.held)] = v;
+    channels[c] = h.put();
     let mut l = lane;
-    l.channels[c] = h.put();
+    l.channels = channels;
     l
 }
 
@@ -127,10 +130,11 @@ pub fn feed_there(lane: Lane, cells: &mut [i32], c: usize, v: i32) -> Fed
     requires { ⌜ Opened (length (now cells)) lane c (lane .network .channels) ⌝ }
     ensures { λ r. ⌜ called (feedTold (r .answer)) (world (r .lane) (now (cells .exit))) ≡ offeredTo c (world lane (now (cells .entry))) (fed c v (world lane (now (cells .entry)))) ⌝ }
 {
-    let net = lane.network;
-    let h = lane.channels[c];
+    let sender = lane.network.sender;
+    let channels = lane.channels;
+    let h = channels[c];
     let gone = receiver_ended(lane, c);
-    match tests::offered(net.sender[c] != 255, h.closed, is_full(h, gone)) {
+    match tests::offered(sender[c] != 255, h.closed, is_full(h, gone)) {
         Tested::Refused(r) => not_fed(lane, r),
         Tested::Passed => {
             let l = count(store(lane, cells, c, v, gone));
@@ -157,13 +161,15 @@ pub fn close_there(lane: Lane, c: usize) -> Fed
     requires { ⌜ c < 32 ⌝ }
     ensures { λ r. ⌜ ((cells : List ℤ) → called (feedTold (r .answer)) (world (r .lane) cells) ≡ offeredTo c (world lane cells) (closed c (world lane cells))) ⌝ }
 {
-    let net = lane.network;
-    let h = lane.channels[c];
-    match tests::offered(net.sender[c] != 255, h.closed, false) {
+    let sender = lane.network.sender;
+    let mut channels = lane.channels;
+    let h = channels[c];
+    match tests::offered(sender[c] != 255, h.closed, false) {
         Tested::Refused(r) => not_fed(lane, r),
         Tested::Passed => {
+            channels[c] = h.close();
             let mut shut = lane;
-            shut.channels[c] = h.close();
+            shut.channels = channels;
             let counted = count(shut);
             Fed {
                 lane: counted,
@@ -210,9 +216,10 @@ pub fn take_there(lane: Lane, cells: &[i32], c: usize) -> Taken
     requires { ⌜ Opened (length (now cells)) lane c (lane .network .channels) ⌝ }
     ensures { λ r. ⌜ called (takeTold (r .answer)) (world (r .lane) (now (cells .entry))) ≡ refuse (receiverInside c (world lane (now (cells .entry)))) 9 (world lane (now (cells .entry))) (taken c (world lane (now (cells .entry)))) ⌝ }
 {
-    let net = lane.network;
-    let h = lane.channels[c];
-    if net.receiver[c] != 255 {
+    let receiver = lane.network.receiver;
+    let mut channels = lane.channels;
+    let h = channels[c];
+    if receiver[c] != 255 {
         return not_taken(lane, Refusal::Inside);
     }
     if h.held == 0 {
@@ -220,8 +227,9 @@ pub fn take_there(lane: Lane, cells: &[i32], c: usize) -> Taken
     }
     let kept = h.get();
     let v = cells[lane_picks::slot(c, h, 0)];
+    channels[c] = kept;
     let mut left = lane;
-    left.channels[c] = kept;
+    left.channels = channels;
     let l = count(left);
     Taken {
         lane: l,

@@ -9,11 +9,11 @@ use Rattle.lane_calls.proofs.close_there.Tie as tie
 mul-h : tie.Need-mul-h
 mul-h c = search needs
 
-element-copy-out-h : tie.Need-element-copy-out-h
-element-copy-out-h c = search needs
+array-copy-out-h : tie.Need-array-copy-out-h
+array-copy-out-h c = search needs
 
-element-copy-out-offered : tie.Need-element-copy-out-offered
-element-copy-out-offered c = search needs
+array-read-offered : tie.Need-array-read-offered
+array-read-offered c = search needs
 
 offered-requires : tie.Need-offered-requires
 offered-requires c κs = search needs
@@ -30,11 +30,11 @@ enum-told c = search needs
 close-requires : tie.Need-close-requires
 close-requires c κs = search needs
 
-mul-t23 : tie.Need-mul-t23
-mul-t23 c = search needs
+mul-channels : tie.Need-mul-channels
+mul-channels c = search needs
 
-element-set-from-shut : tie.Need-element-set-from-shut
-element-set-from-shut c = search needs
+array-set-from-channels : tie.Need-array-set-from-channels
+array-set-from-channels c = search needs
 
 count-requires : tie.Need-count-requires
 count-requires c κs = search needs
@@ -42,28 +42,28 @@ count-requires c κs = search needs
 returns : tie.Need-returns
 returns c =
     let a = c .before .before .before .before .before .before .before .before .args in
-    λ cells. rw (c .not-fed .ensures) (rw (c .before .before .r .given .1) at (close-offered (a .c) (world (a .t1) cells) (c .before .before .before .before .offered .result) (c .before .before .before .before .offered .ensures)))
+    λ cells. rw (c .not-fed .ensures) (rw (c .before .before .r .given .1) at (close-offered (a .c) (world (a .lane) cells) (c .before .before .before .before .offered .result) (c .before .before .before .before .offered .ensures)))
 
 returns-2 : tie.Need-returns-2
 returns-2 c =
     let a = c .before .before .before .before .before .before .before .before .args in
     λ cells. rw (c .count .ensures, c .before .close .ensures)
-    (rw (c .before .before .enum-told .given .1) at (close-offered (a .c) (world (a .t1) cells) (c .before .before .before .before .offered .result) (c .before .before .before .before .offered .ensures)))
+    (rw (c .before .before .enum-told .given .1) at (close-offered (a .c) (world (a .lane) cells) (c .before .before .before .before .offered .result) (c .before .before .before .before .offered .ensures)))
 
 pub close-there-spec : {M : Type 1} → statement M
 close-there-spec =
     tie.close
     (tie.spec
     mul-h
-    element-copy-out-h
-    element-copy-out-offered
+    array-copy-out-h
+    array-read-offered
     offered-requires
     enum-known-r
     not-fed-requires
     enum-told
     close-requires
-    mul-t23
-    element-set-from-shut
+    mul-channels
+    array-set-from-channels
     count-requires
     returns
     returns-2)

@@ -7,8 +7,8 @@ use Rattle.lane.proofs.SoundLaws.{ended-at}
 use Rattle.lane_calls.proofs.receiver_ended.Statement.{statement}
 use Rattle.lane_calls.proofs.receiver_ended.Tie as tie
 
-element-copy-out-e : tie.Need-element-copy-out-e
-element-copy-out-e c = search needs
+array-read-e : tie.Need-array-read-e
+array-read-e c = search needs
 
 cast-e : tie.Need-cast-e
 cast-e c = search needs
@@ -16,22 +16,22 @@ cast-e c = search needs
 mul-ended-if : tie.Need-mul-ended-if
 mul-ended-if c = search needs
 
-element-copy-out-ended-if : tie.Need-element-copy-out-ended-if
-element-copy-out-ended-if c = search needs
+array-copy-out-ended-if : tie.Need-array-copy-out-ended-if
+array-copy-out-ended-if c = search needs
 
 ended-if-requires : tie.Need-ended-if-requires
 ended-if-requires c κs = search needs
 
 returns : tie.Need-returns
-returns c = λ cells. c .ended-if .ensures ∙ ended-at (c .before .before .before .before .args .t1 .processes) (simp length-map at (c .before .before .before .before .good .0 .1 .1 .1 .1 .0 .1 .0 .1)) _
+returns c = λ cells. c .ended-if .ensures ∙ ended-at (c .before .before .before .before .args .lane .processes) (simp length-map at (c .before .before .before .before .good .0 .1 .1 .1 .1 .0 .1 .0 .1)) _
 
 pub receiver-ended-spec : {M : Type 1} → statement M
 receiver-ended-spec =
     tie.close
     (tie.spec
-    element-copy-out-e
+    array-read-e
     cast-e
     mul-ended-if
-    element-copy-out-ended-if
+    array-copy-out-ended-if
     ended-if-requires
     returns)

@@ -12,8 +12,8 @@ returns c = rw (sym (c .before .pre .2) ∙ c .if1 .taken)
 mul-h : tie.Need-mul-h
 mul-h c = search needs
 
-element-copy-out-h : tie.Need-element-copy-out-h
-element-copy-out-h c = search needs
+array-copy-out-h : tie.Need-array-copy-out-h
+array-copy-out-h c = search needs
 
 slot-requires : tie.Need-slot-requires
 slot-requires c κs = search needs
@@ -25,19 +25,19 @@ slice-set-from-v : tie.Need-slice-set-from-v
 slice-set-from-v c = search needs
 
 put-requires : tie.Need-put-requires
-put-requires c κs = c .before .before .before .pre .3 (c .before .before .if1 .left)
+put-requires c κs = c .before .before .before .before .pre .3 (c .before .before .before .if1 .left)
 
-mul-t10 : tie.Need-mul-t10
-mul-t10 c = search needs
+mul-channels : tie.Need-mul-channels
+mul-channels c = search needs
 
-element-set-from-l : tie.Need-element-set-from-l
-element-set-from-l c = search needs
+array-set-from-channels : tie.Need-array-set-from-channels
+array-set-from-channels c = search needs
 
 same-length : tie.Need-same-length
 same-length c = search needs
 
 returns-2 : tie.Need-returns-2
-returns-2 c = rw (sym (c .before .before .before .before .pre .2) ∙ c .before .before .before .if1 .left, c .put .ensures, c .before .slot .ensures .0, toZ-ofZ (c .before .before .before .before .fits .v))
+returns-2 c = rw (sym (c .before .before .before .before .before .pre .2) ∙ c .before .before .before .before .if1 .left, c .put .ensures, c .before .slot .ensures .0, toZ-ofZ (c .before .before .before .before .before .fits .v))
 
 pub store-spec : {M : Type 1} → statement M
 store-spec =
@@ -45,12 +45,12 @@ store-spec =
     (tie.spec
     returns
     mul-h
-    element-copy-out-h
+    array-copy-out-h
     slot-requires
     mul-v
     slice-set-from-v
     put-requires
-    mul-t10
-    element-set-from-l
+    mul-channels
+    array-set-from-channels
     same-length
     returns-2)

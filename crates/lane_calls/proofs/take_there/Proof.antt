@@ -13,13 +13,13 @@ use Rattle.lane_calls.proofs.take_there.Statement.{statement}
 use Rattle.lane_calls.proofs.take_there.Tie as tie
 
 mul-h : tie.Need-mul-h
-mul-h c = omega (arith, below (c .before .pre))
+mul-h c = omega (arith, below (c .before .before .pre))
 
-element-copy-out-h : tie.Need-element-copy-out-h
-element-copy-out-h c = omega (arith, below (c .before .pre))
+array-copy-out-h : tie.Need-array-copy-out-h
+array-copy-out-h c = omega (arith, below (c .before .before .pre))
 
-element-copy-out-if1 : tie.Need-element-copy-out-if1
-element-copy-out-if1 c = omega (arith, below (c .before .before .pre))
+array-read-if1 : tie.Need-array-read-if1
+array-read-if1 c = omega (arith, below (c .before .before .before .pre))
 
 not-taken-requires : tie.Need-not-taken-requires
 not-taken-requires c κs = search needs
@@ -45,11 +45,11 @@ mul-v c = search needs
 shared-slice-copy-out-v : tie.Need-shared-slice-copy-out-v
 shared-slice-copy-out-v c = search needs
 
-mul-kept : tie.Need-mul-kept
-mul-kept c = search needs
+mul-channels : tie.Need-mul-channels
+mul-channels c = search needs
 
-element-set-from-kept : tie.Need-element-set-from-kept
-element-set-from-kept c = search needs
+array-set-from-channels : tie.Need-array-set-from-channels
+array-set-from-channels c = search needs
 
 count-requires : tie.Need-count-requires
 count-requires c κs = search needs
@@ -64,8 +64,8 @@ take-there-spec =
     tie.close
     (tie.spec
     mul-h
-    element-copy-out-h
-    element-copy-out-if1
+    array-copy-out-h
+    array-read-if1
     not-taken-requires
     returns
     take-none-requires
@@ -74,7 +74,7 @@ take-there-spec =
     slot-requires
     mul-v
     shared-slice-copy-out-v
-    mul-kept
-    element-set-from-kept
+    mul-channels
+    array-set-from-channels
     count-requires
     returns-3)
