@@ -107,14 +107,16 @@ pub fn feed_all(lane: Lane, cells: &mut [i32], input: &[u8], next: [usize; 32]) 
     requires { ⌜ (soundOf lane ≡ true) × (length (now cells) ≡ 8192) ⌝ }
     ensures { λ r. ⌜ inputs (leftAt (now (input .entry)) (r .next)) (world (r .lane) (now (cells .exit))) ≡ feeds (inputs (leftAt (now (input .entry)) next) (world lane (now (cells .entry)))) ⌝ }
 {
-    let net = lane.network;
+    let sender = lane.network.sender;
+    let receiver = lane.network.receiver;
+    let channels = lane.network.channels;
     let mut l = lane;
     let mut at = next;
     let mut c: usize = 0;
-    while c < net.channels {
-        if net.sender[c] == 255 {
+    while c < channels {
+        if sender[c] == 255 {
             let h = l.channels[c];
-            let e = base::wide(net.receiver[c]);
+            let e = base::wide(receiver[c]);
             let gone = lane_sound::ended_if(e, l.processes[e % 16]);
             if !idle(h, gone, input, c, at[c]) {
                 let filled = fill(l, cells, input, c, at[c]);

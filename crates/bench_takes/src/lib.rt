@@ -111,13 +111,14 @@ pub fn take_all(
     requires { ⌜ (soundOf lane ≡ true) × (length (now cells) ≡ 8192) × (at + length (text (empties (outputs (world lane (now cells)) given) .lines)) ≤ length (now listing)) ⌝ }
     ensures { λ r. ⌜ (outputs (world (r .lane) (now (cells .entry))) (r .given) ≡ empties (outputs (world lane (now (cells .entry))) given) .after) × (r .at ≡ at + length (text (empties (outputs (world lane (now (cells .entry))) given) .lines))) × (now (listing .exit) ≡ written at (text (empties (outputs (world lane (now (cells .entry))) given) .lines)) (now (listing .entry))) ⌝ }
 {
-    let net = lane.network;
+    let receiver = lane.network.receiver;
+    let channels = lane.network.channels;
     let mut l = lane;
     let mut ended = given;
     let mut place = at;
     let mut c: usize = 0;
-    while c < net.channels {
-        if gives(net.receiver[c], ended[c], l.channels[c]) {
+    while c < channels {
+        if gives(receiver[c], ended[c], l.channels[c]) {
             let emptied = drain(l, cells, c, ended, listing, place);
             l = emptied.lane;
             ended = emptied.given;

@@ -18,11 +18,11 @@ use Rattle.bench_takes.proofs.take_all.Statement.{statement}
 use Rattle.bench_takes.proofs.take_all.Tie as tie
 
 abbrev Inv-loop : tie.InvT-loop
-Inv-loop cells listing₀ at net l₀ ended₀ place₀ c₀ listing l ended place c =
+Inv-loop cells listing₀ at receiver channels l₀ ended₀ place₀ c₀ listing l ended place c =
     Partway (empties (outputs (world l₀ cells) ended₀)) at listing₀ l₀ cells (emptiesFrom c (l₀ .network .channels - c)) l ended place listing
 
 abbrev μ-loop : tie.MeasureT-loop
-μ-loop cells listing₀ at net l₀ ended₀ place₀ c₀ listing l ended place c = l₀ .network .channels - c
+μ-loop cells listing₀ at receiver channels l₀ ended₀ place₀ c₀ listing l ended place c = l₀ .network .channels - c
 
 -- the channel of the loop is there, and whether it has something to give
 there : (c : tie.In-loop Inv-loop μ-loop)
@@ -33,8 +33,8 @@ there c =
     record { long = s .pre .1; sound = k .sound (s .pre .0); there = rw (k .network) (c .loop-test .taken) }
 
 gives-at : (c : tie.After-gives Inv-loop μ-loop)
-    → c .gives .result ≡ givesAt (c .before .before .before .before .loop .c) (outputs (world (c .before .before .before .before .loop .l) (c .before .before .before .before .before .before .before .args .cells .now)) (c .before .before .before .before .loop .ended))
-gives-at c = rw (c .before .before .before .before .loop .inv .kept .network) (c .gives .ensures)
+    → c .gives .result ≡ givesAt (c .before .before .before .loop .c) (outputs (world (c .before .before .before .loop .l) (c .before .before .before .before .before .before .args .cells .now)) (c .before .before .before .loop .ended))
+gives-at c = rw (c .before .before .before .loop .inv .kept .network) (c .gives .ensures)
 
 loop-holds : tie.Need-loop-holds Inv-loop μ-loop
 loop-holds c =
@@ -45,17 +45,17 @@ loop-holds c =
       kept = unchanged (world (s .args .lane) (s .args .cells .now));
     }
 
-element-copy-out-gives : tie.Need-element-copy-out-gives Inv-loop μ-loop
-element-copy-out-gives c = omega (arith, below (there c))
-
 array-read-gives : tie.Need-array-read-gives Inv-loop μ-loop
-array-read-gives c = omega (arith, below (there (c .before)))
+array-read-gives c = omega (arith, below (there c))
+
+array-read-gives-2 : tie.Need-array-read-gives-2 Inv-loop μ-loop
+array-read-gives-2 c = omega (arith, below (there c))
 
 mul-gives : tie.Need-mul-gives Inv-loop μ-loop
-mul-gives c = omega (arith, below (there (c .before)))
+mul-gives c = omega (arith, below (there c))
 
-element-copy-out-gives-2 : tie.Need-element-copy-out-gives-2 Inv-loop μ-loop
-element-copy-out-gives-2 c = omega (arith, below (there (c .before)))
+element-copy-out-gives : tie.Need-element-copy-out-gives Inv-loop μ-loop
+element-copy-out-gives c = omega (arith, below (there c))
 
 gives-requires : tie.Need-gives-requires Inv-loop μ-loop
 gives-requires c κs = search needs
@@ -63,20 +63,20 @@ gives-requires c κs = search needs
 drain-requires : tie.Need-drain-requires Inv-loop μ-loop
 drain-requires c κs =
     let g = c .before .before in
-    let o = there (g .before .before .before) in
-    (o .sound, o .long, o .there, room-for-channel (g .before .before .before .before .loop .inv) (g .before .before .before .loop-test .taken) (sym (gives-at g) ∙ c .before .if1 .taken))
+    let o = there (g .before .before) in
+    (o .sound, o .long, o .there, room-for-channel (g .before .before .before .loop .inv) (g .before .before .loop-test .taken) (sym (gives-at g) ∙ c .before .if1 .taken))
 
 add-c : tie.Need-add-c Inv-loop μ-loop
-add-c c = omega (arith, below (there (c .before .before .before .before)))
+add-c c = omega (arith, below (there (c .before .before .before)))
 
 loop-less : tie.Need-loop-less Inv-loop μ-loop
-loop-less c = omega (arith, c .before .before .before .before .loop-test .taken)
+loop-less c = omega (arith, c .before .before .before .loop-test .taken)
 
 loop-again : tie.Need-loop-again Inv-loop μ-loop
 loop-again c =
     let g = c .before in
-    let p = g .before .before .before .before .loop .inv in
-    let m = g .before .before .before .loop-test .taken in
+    let p = g .before .before .before .loop .inv in
+    let m = g .before .before .loop-test .taken in
     ⊎-elim
     (λ w. after-channel p m (sym (gives-at g) ∙ w .0 .taken) (rw (w .8, w .9) (w .2 .ensures .0), w .10 ∙ w .2 .ensures .1, w .7 ∙ w .2 .ensures .2))
     (λ w. rw (w .1, w .2, w .3, w .4) (passed-over p m (sym (gives-at g) ∙ w .0 .left)))
@@ -100,10 +100,10 @@ take-all-spec =
     Inv-loop
     μ-loop
     loop-holds
-    element-copy-out-gives
     array-read-gives
+    array-read-gives-2
     mul-gives
-    element-copy-out-gives-2
+    element-copy-out-gives
     gives-requires
     drain-requires
     add-c
