@@ -62,7 +62,7 @@ pub instruction-is :
     → n ≡ l .network
     → standingOf l p .position < countOf n p
     → at ≡ startOf n p + standingOf l p .position
-    → i ≡ instructionAt (n .code) at
+    → i ≡ instructionAt (l .network .code) at
     → i ≡ instructionFor p l
 unfolding standsAt
 instruction-is {n} l p same h e₁ e₂ = rw (e₂, e₁, ← same, lt-ltb (standingOf l p .position) (countOf n p) h)

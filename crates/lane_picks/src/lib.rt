@@ -244,7 +244,10 @@ pub fn pick_rounds(lane: Lane, cells: &mut [i32], picks: &[u8], again: u64) -> R
     requires { ⌜ (soundOf lane ≡ true) × (length (now cells) ≡ 8192) × ((k : ℕ) → k < length (now picks) → getD (now picks) k 0 < lane .network .processes) ⌝ }
     ensures { λ r. ⌜ roundsOf r (now (cells .exit)) ≡ pickRounds again (now (picks .entry)) (unpicked (world lane (now (cells .entry)))) ⌝ }
 {
-    let net = lane.network;
+    let first = lane.network.first;
+    let sender = lane.network.sender;
+    let receiver = lane.network.receiver;
+    let channels = lane.network.channels;
     let mut l = lane;
     let mut stage = beginning(again);
     let mut last = Outcome::Ended;
@@ -253,13 +256,13 @@ pub fn pick_rounds(lane: Lane, cells: &mut [i32], picks: &[u8], again: u64) -> R
         let i = stage.i;
         let p = number(picks[i]);
         let standing = l.processes[p];
-        let at = place(net.first[p], standing.position);
-        let instruction = network::fetch(&net.code, at);
+        let at = place(first[p], standing.position);
+        let instruction = network::fetch(&l.network.code, at);
         let own = own_of(p, instruction);
         let stance = stance_of(l.registers[own], standing);
         channel = channel_of(instruction);
         let h = l.channels[channel];
-        let e = base::wide(net.receiver[channel]);
+        let e = base::wide(receiver[channel]);
         let gone = ended_if(e, l.processes[e % 16]);
         let next = cells[slot(channel, h, 0)];
         let change = step(instruction, &l.registers, base_of(p), stance, h, next, gone);
@@ -271,8 +274,8 @@ pub fn pick_rounds(lane: Lane, cells: &mut [i32], picks: &[u8], again: u64) -> R
         put_message(cells, slot(channel, h, h.held), last);
         stage = onward(stage, gained(last), picks.len());
         if halted(last) {
-            let channels = l.channels;
-            l.channels = drop_all(&net.sender, &net.receiver, net.channels, channels, p);
+            let before = l.channels;
+            l.channels = drop_all(&sender, &receiver, channels, before, p);
         }
     }
     Ran {

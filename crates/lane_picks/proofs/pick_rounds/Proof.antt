@@ -26,35 +26,36 @@ use Rattle.lane_picks.proofs.pick_rounds.Statement.{statement}
 use Rattle.lane_picks.proofs.pick_rounds.Tie as tie
 
 abbrev Inv-loop : tie.InvT-loop
-Inv-loop cells₀ picks again net l₀ stage₀ last₀ channel₀ cells l stage last channel = Between picks again (unpicked (world l₀ cells₀)) stage net l cells last channel
+Inv-loop cells₀ picks again first sender receiver channels l₀ stage₀ last₀ channel₀ cells l stage last channel =
+    Between picks again (unpicked (world l₀ cells₀)) stage (l₀ .network) l cells last channel
 
 abbrev μ-loop : tie.MeasureT-loop
-μ-loop cells₀ picks again net l₀ stage₀ last₀ channel₀ cells l stage last channel = picksLeft stage (length picks)
+μ-loop cells₀ picks again first sender receiver channels l₀ stage₀ last₀ channel₀ cells l stage last channel = picksLeft stage (length picks)
 
 -- ---- earlier places of a turn, from its step on
 abbrev start-of : tie.After-step Inv-loop μ-loop → tie.Start Inv-loop μ-loop
 start-of c = c .before .before .before .before .before .before .before .before .before .before .before .before .before .before .before .before .before .before .before .before .before .before .before .before .before .before .before .before .before
 
 abbrev loop-of : tie.After-step Inv-loop μ-loop → tie.At-loop Inv-loop μ-loop
-loop-of c = c .before .before .before .before .before .before .before .before .before .before .before .before .before .before .before .before .before .before .before .before .before .before .before .before .before
+loop-of c = c .before .before .before .before .before .before .before .before .before .before .before .before .before .before .before .before .before .before .before .before .before .before .before
 
 abbrev test-of : tie.After-step Inv-loop μ-loop → tie.Then1 Inv-loop μ-loop
-test-of c = c .before .before .before .before .before .before .before .before .before .before .before .before .before .before .before .before .before .before .before .before .before .before .before
+test-of c = c .before .before .before .before .before .before .before .before .before .before .before .before .before .before .before .before .before .before .before .before .before
 
 abbrev number-of : tie.After-step Inv-loop μ-loop → tie.After-number Inv-loop μ-loop
-number-of c = c .before .before .before .before .before .before .before .before .before .before .before .before .before .before .before .before .before .before .before .before .before
+number-of c = c .before .before .before .before .before .before .before .before .before .before .before .before .before .before .before .before .before .before .before
 
 abbrev fetch-of : tie.After-step Inv-loop μ-loop → tie.After-fetch Inv-loop μ-loop
-fetch-of c = c .before .before .before .before .before .before .before .before .before .before .before .before .before .before .before
+fetch-of c = c .before .before .before .before .before .before .before .before .before .before .before .before .before .before
 
 abbrev own-at : tie.After-step Inv-loop μ-loop → tie.After-own-of Inv-loop μ-loop
-own-at c = c .before .before .before .before .before .before .before .before .before .before .before .before .before .before
+own-at c = c .before .before .before .before .before .before .before .before .before .before .before .before .before
 
 abbrev stance-at : tie.After-step Inv-loop μ-loop → tie.After-stance-of Inv-loop μ-loop
-stance-at c = c .before .before .before .before .before .before .before .before .before .before .before .before
+stance-at c = c .before .before .before .before .before .before .before .before .before .before .before
 
 abbrev channel-at : tie.After-step Inv-loop μ-loop → tie.After-channel-of Inv-loop μ-loop
-channel-at c = c .before .before .before .before .before .before .before .before .before .before .before
+channel-at c = c .before .before .before .before .before .before .before .before .before .before
 
 abbrev step-of : tie.After-gained Inv-loop μ-loop → tie.After-step Inv-loop μ-loop
 step-of c = c .before .before .before .before .before .before .before .before .before .before
@@ -70,23 +71,23 @@ shaped c =
     }
 
 -- the process that is picked
-here : (c : tie.After-number Inv-loop μ-loop) → Next (c .before .before .before .before .before .before .before .before .args .lane .network) (c .before .before .before .before .loop .l) (c .number .result)
+here : (c : tie.After-number Inv-loop μ-loop) → Next (c .before .before .before .before .before .before .before .before .before .before .args .lane .network) (c .before .before .before .before .loop .l) (c .number .result)
 here c = next (c .before .before .before .before .loop .inv .part) (c .before .before .if1 .taken) (c .number .ensures .0)
 
 -- its instruction
-stands : (c : tie.After-fetch Inv-loop μ-loop) → c .fetch .result ≡ instructionFor (c .before .before .before .before .before .before .number .result) (c .before .before .before .before .before .before .before .before .before .before .loop .l)
+stands : (c : tie.After-fetch Inv-loop μ-loop) → c .fetch .result ≡ instructionFor (c .before .before .before .before .before .number .result) (c .before .before .before .before .before .before .before .before .before .loop .l)
 stands c =
-    let o = c .before .before .before .before .before .before .before .before .before .before .loop in
-    instruction-is (o .l) _ (o .inv .part .same) (here (c .before .before .before .before .before .before) .position) (c .before .before .before .place .ensures .0) (c .fetch .ensures)
+    let o = c .before .before .before .before .before .before .before .before .before .loop in
+    instruction-is (o .l) _ (o .inv .part .same) (here (c .before .before .before .before .before) .position) (c .before .before .before .place .ensures .0) (c .fetch .ensures)
 
 -- its field a is a register, or zero
 low : (c : tie.After-fetch Inv-loop μ-loop) → c .fetch .result .a < 8
-low c = a-low (c .before .before .before .before .before .before .before .before .before .before .loop .l) _ (c .before .before .before .before .before .before .before .before .before .before .loop .inv .part .sound) (here (c .before .before .before .before .before .before)) (stands c)
+low c = a-low (c .before .before .before .before .before .before .before .before .before .loop .l) _ (c .before .before .before .before .before .before .before .before .before .loop .inv .part .sound) (here (c .before .before .before .before .before)) (stands c)
 
 -- what it brings to its instruction
-stance : (c : tie.After-stance-of Inv-loop μ-loop) → c .stance-of .result ≡ stanceIn (c .before .before .before .before .before .before .before .before .before .before .before .before .before .loop .l) (c .before .before .before .before .before .before .before .before .before .number .result) (c .before .before .own-of .result)
+stance : (c : tie.After-stance-of Inv-loop μ-loop) → c .stance-of .result ≡ stanceIn (c .before .before .before .before .before .before .before .before .before .before .before .before .loop .l) (c .before .before .before .before .before .before .before .before .number .result) (c .before .before .own-of .result)
 stance c =
-    let f : SFits w32 (getD (c .before .before .before .before .before .before .before .before .before .before .before .before .before .loop .l .registers) (c .before .before .own-of .result) (pos 0)) = record { sfits = c .before .stance-of-arg .given } in
+    let f : SFits w32 (getD (c .before .before .before .before .before .before .before .before .before .before .before .before .loop .l .registers) (c .before .before .own-of .result) (pos 0)) = record { sfits = c .before .stance-of-arg .given } in
     rw (toZ-ofZ f) at (c .stance-of .ensures)
 
 -- the step that it takes
@@ -152,7 +153,7 @@ beginning-requires c κs = search needs
 
 loop-holds : tie.Need-loop-holds Inv-loop μ-loop
 loop-holds c =
-    let s = c .before .before .before in
+    let s = c .before .before .before .before .before in
     rw (c .beginning .ensures)
     (record {
       part = record {
@@ -183,17 +184,17 @@ element-copy-out-standing c = search needs
 mul-place : tie.Need-mul-place Inv-loop μ-loop
 mul-place c = search needs
 
-element-copy-out-place : tie.Need-element-copy-out-place Inv-loop μ-loop
-element-copy-out-place c = search needs
+array-read-place : tie.Need-array-read-place Inv-loop μ-loop
+array-read-place c = search needs
 
 place-requires : tie.Need-place-requires Inv-loop μ-loop
-place-requires c κs = here (c .before .before) .place
+place-requires c κs = here (c .before) .place
 
 fetch-requires : tie.Need-fetch-requires Inv-loop μ-loop
 fetch-requires c κs = search needs
 
 own-of-requires : tie.Need-own-of-requires Inv-loop μ-loop
-own-of-requires c κs = (c .before .before .before .before .before .before .number .ensures .1, low c)
+own-of-requires c κs = (c .before .before .before .before .before .number .ensures .1, low c)
 
 mul-stance-of : tie.Need-mul-stance-of Inv-loop μ-loop
 mul-stance-of c = search needs
@@ -213,8 +214,8 @@ mul-h c = search needs
 element-copy-out-h : tie.Need-element-copy-out-h Inv-loop μ-loop
 element-copy-out-h c = search needs
 
-element-copy-out-wide : tie.Need-element-copy-out-wide Inv-loop μ-loop
-element-copy-out-wide c = search needs
+array-read-wide : tie.Need-array-read-wide Inv-loop μ-loop
+array-read-wide c = search needs
 
 wide-requires : tie.Need-wide-requires Inv-loop μ-loop
 wide-requires c κs = search needs
@@ -235,52 +236,52 @@ mul-next : tie.Need-mul-next Inv-loop μ-loop
 mul-next c = search needs
 
 slice-copy-out-next : tie.Need-slice-copy-out-next Inv-loop μ-loop
-slice-copy-out-next c = omega (arith, c .slot .ensures .1, c .before .before .before .before .before .before .before .before .before .before .before .before .before .before .before .before .before .before .before .before .loop .inv .part .long)
+slice-copy-out-next c = omega (arith, c .slot .ensures .1, c .before .before .before .before .before .before .before .before .before .before .before .before .before .before .before .before .before .before .loop .inv .part .long)
 
 base-of-requires : tie.Need-base-of-requires Inv-loop μ-loop
 base-of-requires c κs = search needs
 
 step-requires : tie.Need-step-requires Inv-loop μ-loop
 step-requires c κs =
-    let o = c .before .before .before .before .before .before .before .before .before .before .before .before .before .before .before .before .before .before .before .before .before .before .before .before .loop in
-    steppable (o .l) _ (c .before .before .before .before .before .before .before .before .before .before .before .before .before .own-of .result) (o .inv .part .sound) (here (c .before .before .before .before .before .before .before .before .before .before .before .before .before .before .before .before .before .before .before .before)) (stands (c .before .before .before .before .before .before .before .before .before .before .before .before .before .before))
+    let o = c .before .before .before .before .before .before .before .before .before .before .before .before .before .before .before .before .before .before .before .before .before .before .loop in
+    steppable (o .l) _ (c .before .before .before .before .before .before .before .before .before .before .before .before .own-of .result) (o .inv .part .sound) (here (c .before .before .before .before .before .before .before .before .before .before .before .before .before .before .before .before .before .before)) (stands (c .before .before .before .before .before .before .before .before .before .before .before .before .before))
     (c .base-of .ensures .0)
-    (c .before .before .before .before .before .before .before .before .before .before .before .before .before .own-of .ensures .0)
-    (stance (c .before .before .before .before .before .before .before .before .before .before .before))
-    (c .before .before .before .before .before .before .before .before .before .before .channel-of .ensures .0)
+    (c .before .before .before .before .before .before .before .before .before .before .before .before .own-of .ensures .0)
+    (stance (c .before .before .before .before .before .before .before .before .before .before))
+    (c .before .before .before .before .before .before .before .before .before .channel-of .ensures .0)
 
 put-register-requires : tie.Need-put-register-requires Inv-loop μ-loop
 put-register-requires c κs = search needs
 
 mul-standing-after : tie.Need-mul-standing-after Inv-loop μ-loop
-mul-standing-after c = omega (arith, c .before .before .before .before .before .before .before .before .before .before .before .before .before .before .before .before .before .before .before .before .before .before .before .number .ensures .1)
+mul-standing-after c = omega (arith, c .before .before .before .before .before .before .before .before .before .before .before .before .before .before .before .before .before .before .before .before .before .number .ensures .1)
 
 element-copy-out-standing-after : tie.Need-element-copy-out-standing-after Inv-loop μ-loop
-element-copy-out-standing-after c = omega (arith, c .before .before .before .before .before .before .before .before .before .before .before .before .before .before .before .before .before .before .before .before .before .before .before .number .ensures .1)
+element-copy-out-standing-after c = omega (arith, c .before .before .before .before .before .before .before .before .before .before .before .before .before .before .before .before .before .before .before .before .before .number .ensures .1)
 
 standing-after-requires : tie.Need-standing-after-requires Inv-loop μ-loop
 standing-after-requires c κs = search needs
 
 mul-after : tie.Need-mul-after Inv-loop μ-loop
-mul-after c = omega (arith, c .before .before .before .before .before .before .before .before .before .before .before .before .before .before .before .before .before .before .before .before .before .before .before .before .before .number .ensures .1)
+mul-after c = omega (arith, c .before .before .before .before .before .before .before .before .before .before .before .before .before .before .before .before .before .before .before .before .before .before .before .number .ensures .1)
 
 element-set-from-after : tie.Need-element-set-from-after Inv-loop μ-loop
-element-set-from-after c = omega (arith, c .before .before .before .before .before .before .before .before .before .before .before .before .before .before .before .before .before .before .before .before .before .before .before .before .before .number .ensures .1)
+element-set-from-after c = omega (arith, c .before .before .before .before .before .before .before .before .before .before .before .before .before .before .before .before .before .before .before .before .before .before .before .number .ensures .1)
 
 channel-after-requires : tie.Need-channel-after-requires Inv-loop μ-loop
 channel-after-requires c κs = search needs
 
-mul-t24 : tie.Need-mul-t24 Inv-loop μ-loop
-mul-t24 c = omega (arith, c .before .before .before .before .before .before .before .before .before .before .before .before .before .before .before .before .channel-of .ensures .1)
+mul-t27 : tie.Need-mul-t27 Inv-loop μ-loop
+mul-t27 c = omega (arith, c .before .before .before .before .before .before .before .before .before .before .before .before .before .before .before .channel-of .ensures .1)
 
 element-set-from-l : tie.Need-element-set-from-l Inv-loop μ-loop
-element-set-from-l c = omega (arith, c .before .before .before .before .before .before .before .before .before .before .before .before .before .before .before .before .channel-of .ensures .1)
+element-set-from-l c = omega (arith, c .before .before .before .before .before .before .before .before .before .before .before .before .before .before .before .channel-of .ensures .1)
 
 slot-requires-2 : tie.Need-slot-requires-2 Inv-loop μ-loop
-slot-requires-2 c κs = c .before .before .before .before .before .before .before .before .before .before .before .before .before .before .before .before .before .channel-of .ensures .1
+slot-requires-2 c κs = c .before .before .before .before .before .before .before .before .before .before .before .before .before .before .before .before .channel-of .ensures .1
 
 put-message-requires : tie.Need-put-message-requires Inv-loop μ-loop
-put-message-requires c κs = omega (arith, c .slot2 .ensures .1, c .before .before .before .before .before .before .before .before .before .before .before .before .before .before .before .before .before .before .before .before .before .before .before .before .before .before .before .before .before .before .before .before .loop .inv .part .long)
+put-message-requires c κs = omega (arith, c .slot2 .ensures .1, c .before .before .before .before .before .before .before .before .before .before .before .before .before .before .before .before .before .before .before .before .before .before .before .before .before .before .before .before .before .before .loop .inv .part .long)
 
 gained-requires : tie.Need-gained-requires Inv-loop μ-loop
 gained-requires c κs = search needs
@@ -292,17 +293,17 @@ halted-requires : tie.Need-halted-requires Inv-loop μ-loop
 halted-requires c κs = search needs
 
 drop-all-requires : tie.Need-drop-all-requires Inv-loop μ-loop
-drop-all-requires c κs = channels-low (loop-of (step-of (c .before .before .before .before .before .before .before)) .loop .inv .part)
+drop-all-requires c κs = channels-low (loop-of (step-of (c .before .before .before .before .before .before)) .loop .inv .part)
 
 loop-less : tie.Need-loop-less Inv-loop μ-loop
-loop-less c = fewer (c .before .before .before .before .before .before .before)
+loop-less c = fewer (c .before .before .before .before .before .before)
 
 loop-again : tie.Need-loop-again Inv-loop μ-loop
 loop-again c =
-    let h = c .before .before .before .before .before .before in
+    let h = c .before .before .before .before .before in
     let g = h .before .before in
     turned (h .before)
-    (cond-yes (channels-of g) (h .halted .ensures) (c .before .before .before .before .before .if2 .taken)
+    (cond-yes (channels-of g) (h .halted .ensures) (c .before .before .before .before .if2 .taken)
     (drop-is _ _ (number-of (step-of g) .number .result) (channels-of g) (loop-of (step-of g) .loop .inv .part .same) (c .drop-all .ensures)))
 
 loop-less-2 : tie.Need-loop-less-2 Inv-loop μ-loop
@@ -330,7 +331,7 @@ pick-rounds-spec =
     mul-standing
     element-copy-out-standing
     mul-place
-    element-copy-out-place
+    array-read-place
     place-requires
     fetch-requires
     own-of-requires
@@ -340,7 +341,7 @@ pick-rounds-spec =
     channel-of-requires
     mul-h
     element-copy-out-h
-    element-copy-out-wide
+    array-read-wide
     wide-requires
     mul-ended-if
     element-copy-out-ended-if
@@ -357,7 +358,7 @@ pick-rounds-spec =
     mul-after
     element-set-from-after
     channel-after-requires
-    mul-t24
+    mul-t27
     element-set-from-l
     slot-requires-2
     put-message-requires
