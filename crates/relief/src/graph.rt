@@ -69,7 +69,10 @@ pub fn waits_of(lane: Lane) -> Waits
     requires { ⌜ soundOf lane ≡ true ⌝ }
     ensures { λ r. ⌜ ((p : ℕ) → (pointsIn (r .points) (lane .network .processes) p ≡ pointing lane p) × (numberIn (r .full) p ≡ fullWait lane p) × (numberIn (r .channel) p ≡ waitsAt lane p)) × ((p : ℕ) → p < lane .network .processes → waitAs (getD (r .ways) p (way Waiting.Free) .waiting) (waitsAt lane p) ≡ waitOf lane p) ⌝ }
 {
-    let net = lane.network;
+    let first = lane.network.first;
+    let sender = lane.network.sender;
+    let receiver = lane.network.receiver;
+    let used = lane.network.processes;
     let mut ways = [Way {
         waiting: Waiting::Free,
     }; 16];
@@ -77,18 +80,18 @@ pub fn waits_of(lane: Lane) -> Waits
     let mut full = [0u16; 16];
     let mut channel = [0u8; 16];
     let mut p = 0;
-    while p < net.processes {
+    while p < used {
         let standing = lane.processes[p];
         let condition = standing.condition;
-        let at = lane_picks::place(net.first[p], standing.position);
-        let i = network::fetch(&net.code, at);
+        let at = lane_picks::place(first[p], standing.position);
+        let i = network::fetch(&lane.network.code, at);
         let c = lane_picks::channel_of(i);
         let h = lane.channels[c];
-        let e = base::wide(net.receiver[c]);
+        let e = base::wide(receiver[c]);
         let gone = lane_sound::ended_if(e, lane.processes[e % 16]);
         let ended = lane_sound::is_ended(condition);
         let waiting = waiting_at(i.op, !ended, h, gone);
-        let wait = wait_in(waiting, c as u8, net.sender[c], net.receiver[c], h.capacity);
+        let wait = wait_in(waiting, c as u8, sender[c], receiver[c], h.capacity);
         ways[p] = Way { waiting };
         points[p] = wait.points;
         full[p] = wait.full;

@@ -19,42 +19,42 @@ use Rattle.relief.proofs.graph.waits_of.Statement.{statement}
 use Rattle.relief.proofs.graph.waits_of.Tie as tie
 
 abbrev Inv-loop : tie.InvT-loop
-Inv-loop lane net ways₀ points₀ full₀ channel₀ p₀ ways points full channel p =
+Inv-loop lane first sender receiver used ways₀ points₀ full₀ channel₀ p₀ ways points full channel p =
     (p ≤ lane .network .processes) × Filled (pointing lane) 0 points₀ p points × Filled (fullWait lane) 0 full₀ p full × Filled (waitsAt lane) 0 channel₀ p channel × Filled (λ q. way (waitingFor lane q)) (way Free) ways₀ p ways
 
 abbrev μ-loop : tie.MeasureT-loop
-μ-loop lane net ways₀ points₀ full₀ channel₀ p₀ ways points full channel p = lane .network .processes - p
+μ-loop lane first sender receiver used ways₀ points₀ full₀ channel₀ p₀ ways points full channel p = lane .network .processes - p
 
 -- ---- what is known at a place
 -- the process of a turn
-here : (c : tie.In-loop Inv-loop μ-loop) → Next (c .before .before .before .args .t1 .network) (c .before .before .before .args .t1) (c .before .loop .p)
+here : (c : tie.In-loop Inv-loop μ-loop) → Next (c .before .before .before .before .before .args .t1 .network) (c .before .before .before .before .before .args .t1) (c .before .loop .p)
 here c =
-    let s = c .before .before .before in
+    let s = c .before .before .before .before .before in
     next-of (s .args .t1) (c .before .loop .p) (sound-says (s .args .t1) (s .pre)) (c .loop-test .taken)
 
 abbrev turn-of : tie.After-fetch Inv-loop μ-loop → tie.In-loop Inv-loop μ-loop
-turn-of c = c .before .before .before .before .before .before
+turn-of c = c .before .before .before .before .before
 
 -- its instruction
-stands : (c : tie.After-fetch Inv-loop μ-loop) → c .fetch .result ≡ instructionFor (turn-of c .before .loop .p) (turn-of c .before .before .before .args .t1)
-stands c = instruction-is (turn-of c .before .before .before .args .t1) _ refl (here (turn-of c) .position) (c .before .before .before .place .ensures .0) (c .fetch .ensures)
+stands : (c : tie.After-fetch Inv-loop μ-loop) → c .fetch .result ≡ instructionFor (turn-of c .before .loop .p) (turn-of c .before .before .before .before .before .args .t1)
+stands c = instruction-is (turn-of c .before .before .before .before .before .args .t1) _ refl (here (turn-of c) .position) (c .before .before .before .place .ensures .0) (c .fetch .ensures)
 
 abbrev fetch-of : tie.After-waiting-at Inv-loop μ-loop → tie.After-fetch Inv-loop μ-loop
-fetch-of c = c .before .before .before .before .before .before .before .before
+fetch-of c = c .before .before .before .before .before .before .before
 
 -- how it waits
-waiting : (c : tie.After-waiting-at Inv-loop μ-loop) → c .waiting-at .result ≡ waitingFor (turn-of (fetch-of c) .before .before .before .args .t1) (turn-of (fetch-of c) .before .loop .p)
+waiting : (c : tie.After-waiting-at Inv-loop μ-loop) → c .waiting-at .result ≡ waitingFor (turn-of (fetch-of c) .before .before .before .before .before .args .t1) (turn-of (fetch-of c) .before .loop .p)
 waiting c =
-    waiting-is (turn-of (fetch-of c) .before .before .before .args .t1) _ (simp length-map at (turn-of (fetch-of c) .before .before .before .good .0 .1 .1 .1 .1 .0 .1 .0 .1)) (stands (fetch-of c))
+    waiting-is (turn-of (fetch-of c) .before .before .before .before .before .args .t1) _ (simp length-map at (turn-of (fetch-of c) .before .before .before .before .before .good .0 .1 .1 .1 .1 .0 .1 .0 .1)) (stands (fetch-of c))
     (ap not (c .before .is-ended .ensures))
-    (c .before .before .before .before .before .before .before .channel-of .ensures .0)
+    (c .before .before .before .before .before .before .channel-of .ensures .0)
     (c .before .before .before .before .wide .ensures)
     (c .before .before .ended-if .ensures)
     (c .waiting-at .ensures)
 
 -- the turn, from its last call on
 abbrev waiting-of : tie.After-wait-in Inv-loop μ-loop → tie.After-waiting-at Inv-loop μ-loop
-waiting-of c = c .before .before .before
+waiting-of c = c .before
 
 abbrev last-of : tie.After-wait-in Inv-loop μ-loop → tie.In-loop Inv-loop μ-loop
 last-of c = turn-of (fetch-of (waiting-of c))
@@ -72,11 +72,11 @@ element-copy-out-standing c = omega (arith, here c .low)
 mul-place : tie.Need-mul-place Inv-loop μ-loop
 mul-place c = omega (arith, here (c .before) .low)
 
-element-copy-out-place : tie.Need-element-copy-out-place Inv-loop μ-loop
-element-copy-out-place c = omega (arith, here (c .before) .low)
+array-read-place : tie.Need-array-read-place Inv-loop μ-loop
+array-read-place c = omega (arith, here (c .before) .low)
 
 place-requires : tie.Need-place-requires Inv-loop μ-loop
-place-requires c κs = here (c .before .before) .place
+place-requires c κs = here (c .before) .place
 
 fetch-requires : tie.Need-fetch-requires Inv-loop μ-loop
 fetch-requires c κs = search needs
@@ -90,8 +90,8 @@ mul-h c = search needs
 element-copy-out-h : tie.Need-element-copy-out-h Inv-loop μ-loop
 element-copy-out-h c = search needs
 
-element-copy-out-wide : tie.Need-element-copy-out-wide Inv-loop μ-loop
-element-copy-out-wide c = search needs
+array-read-wide : tie.Need-array-read-wide Inv-loop μ-loop
+array-read-wide c = search needs
 
 wide-requires : tie.Need-wide-requires Inv-loop μ-loop
 wide-requires c κs = search needs
@@ -112,13 +112,13 @@ waiting-at-requires : tie.Need-waiting-at-requires Inv-loop μ-loop
 waiting-at-requires c κs = search needs
 
 cast-wait-in : tie.Need-cast-wait-in Inv-loop μ-loop
-cast-wait-in c = omega (arith, c .before .before .before .before .before .before .before .channel-of .ensures .1)
+cast-wait-in c = omega (arith, c .before .before .before .before .before .before .channel-of .ensures .1)
 
-element-copy-out-wait-in : tie.Need-element-copy-out-wait-in Inv-loop μ-loop
-element-copy-out-wait-in c = omega (arith, c .before .before .before .before .before .before .before .channel-of .ensures .1)
+array-read-wait-in : tie.Need-array-read-wait-in Inv-loop μ-loop
+array-read-wait-in c = omega (arith, c .before .before .before .before .before .before .channel-of .ensures .1)
 
-element-copy-out-wait-in-2 : tie.Need-element-copy-out-wait-in-2 Inv-loop μ-loop
-element-copy-out-wait-in-2 c = omega (arith, c .before .before .before .before .before .before .before .before .channel-of .ensures .1)
+array-read-wait-in-2 : tie.Need-array-read-wait-in-2 Inv-loop μ-loop
+array-read-wait-in-2 c = omega (arith, c .before .before .before .before .before .before .channel-of .ensures .1)
 
 wait-in-requires : tie.Need-wait-in-requires Inv-loop μ-loop
 wait-in-requires c κs = search needs
@@ -149,7 +149,7 @@ loop-again c =
     let l = last-of c .before .loop in
     let h = here (last-of c) in
     let how = waiting (waiting-of c) in
-    let w = waits-are (last-of c .before .before .before .args .t1) (l .p) (h .there) how (waiting-of c .before .before .before .before .before .before .before .channel-of .ensures .0 ∙ ap channelIn (stands (fetch-of (waiting-of c)))) (c .wait-in .ensures) in (
+    let w = waits-are (last-of c .before .before .before .before .before .args .t1) (l .p) (h .there) how (waiting-of c .before .before .before .before .before .before .channel-of .ensures .0 ∙ ap channelIn (stands (fetch-of (waiting-of c)))) (c .wait-in .ensures) in (
       omega (arith, h .there),
       filled-more _ 0 _ (l .p) (l .points) _ (omega (arith, l .inv .1 .long, h .low)) (w .0) (l .inv .1),
       filled-more _ 0 _ (l .p) (l .full) _ (omega (arith, l .inv .2 .long, h .low)) (w .1) (l .inv .2),
@@ -160,7 +160,7 @@ loop-again c =
 returns : tie.Need-returns Inv-loop μ-loop
 returns c =
     let l = c .before .loop in
-    let s = c .before .before .before in (
+    let s = c .before .before .before .before .before in (
       filled-waits (s .args .t1) (sound-says _ (s .pre)) (simp length-map at (s .good .0 .1 .1 .0 .1 .1 .1 .1 .1 .0 .1 .0 .1)) (l .p) (c .loop-test .left) (l .inv .1) (l .inv .2) (l .inv .3),
       λ q m. waiting-so (s .args .t1) q (ap (λ (w : Way). w .waiting) (l .inv .4 .done q (omega (arith, c .loop-test .left)))),
     )
@@ -175,13 +175,13 @@ waits-of-spec =
     mul-standing
     element-copy-out-standing
     mul-place
-    element-copy-out-place
+    array-read-place
     place-requires
     fetch-requires
     channel-of-requires
     mul-h
     element-copy-out-h
-    element-copy-out-wide
+    array-read-wide
     wide-requires
     mul-ended-if
     element-copy-out-ended-if
@@ -189,8 +189,8 @@ waits-of-spec =
     is-ended-requires
     waiting-at-requires
     cast-wait-in
-    element-copy-out-wait-in
-    element-copy-out-wait-in-2
+    array-read-wait-in
+    array-read-wait-in-2
     wait-in-requires
     array-set-from-ways
     array-write-points
