@@ -38,7 +38,9 @@ fn main() -> ExitCode {
         _ => false,
     };
     if !done {
-        eprintln!("figures check|read|sound|ended|little|bench TIMES [FOLDER], or figures files FOLDER");
+        eprintln!(
+            "figures check|read|sound|ended|little|bench TIMES [FOLDER], or figures files FOLDER"
+        );
         return ExitCode::from(2);
     }
     ExitCode::SUCCESS
