@@ -238,6 +238,19 @@ fn onward(stage: Stage, gained: u64, length: usize) -> Stage
     beginning(again - 1)
 }
 
+// What is answered of the picks made, from the place that they came to.
+fn ran(lane: Lane, stage: Stage, last: Outcome, channel: usize) -> Ran
+    ensures { λ r. ⌜ r ≡ record { lane = lane; moved = stage .moved; last = last; channel = channel; left = stage .again } ⌝ }
+{
+    Ran {
+        lane,
+        moved: stage.moved,
+        last,
+        channel,
+        left: stage.again,
+    }
+}
+
 // Rounds of picks, each one after the other: one, and so many more as long as the round before had a move. Public for the crates above,
 // which have shown what it requires: the lane is sound, the cells are 8,192, and each pick names a process.
 pub fn pick_rounds(lane: Lane, cells: &mut [i32], picks: &[u8], again: u64) -> Ran
@@ -278,13 +291,7 @@ pub fn pick_rounds(lane: Lane, cells: &mut [i32], picks: &[u8], again: u64) -> R
             l.channels = drop_all(&sender, &receiver, channels, before, p);
         }
     }
-    Ran {
-        lane: l,
-        moved: stage.moved,
-        last,
-        channel,
-        left: stage.again,
-    }
+    ran(l, stage, last, channel)
 }
 
 // Picks one after the other: a single round. Public for the crates above, which have shown what it requires.

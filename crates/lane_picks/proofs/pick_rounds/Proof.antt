@@ -312,11 +312,14 @@ loop-less-2 c = fewer (c .before .before)
 loop-again-2 : tie.Need-loop-again-2 Inv-loop μ-loop
 loop-again-2 c = turned (c .before .before) (cond-no _ (c .before .halted .ensures) (c .if2 .left) refl)
 
+ran-requires : tie.Need-ran-requires Inv-loop μ-loop
+ran-requires c κs = search needs
+
 same-length : tie.Need-same-length Inv-loop μ-loop
-same-length c = c .before .before .loop .inv .part .long ∙ sym (c .before .before .loop .inv .part .long₀)
+same-length c = c .before .before .before .loop .inv .part .long ∙ sym (c .before .before .before .loop .inv .part .long₀)
 
 returns : tie.Need-returns Inv-loop μ-loop
-returns c = partway-all (c .before .before .loop .inv) (c .if1 .left)
+returns c = rw (c .ran .ensures) (partway-all (c .before .before .before .loop .inv) (c .before .if1 .left))
 
 pub pick-rounds-spec : {M : Type 1} → statement M
 pick-rounds-spec =
@@ -370,5 +373,6 @@ pick-rounds-spec =
     loop-again
     loop-less-2
     loop-again-2
+    ran-requires
     same-length
     returns)
