@@ -1,7 +1,7 @@
 -- How a code is tested without a jump. An instruction is weighed as one number, op + 256 a + 65536 b + 16777216 c, and two tables add to it, one by its
 -- opcode and one by its field b. With them each field has digits of its own: what the opcode's word adds to a field is what is missing from its limit to
--- the next power of two, so that a field beyond its limit carries into a digit that is otherwise zero, a flag. The contracts of
--- the private functions cite this; that of `passes` does not.
+-- the next power of two, so that a field beyond its limit carries into a digit that is otherwise zero, a flag. The field a has flags among its own digits
+-- too, above those of a register. The contracts of the private functions cite this; that of `passes` does not.
 -- Assumes nothing.
 use mathlib.Core.Bool.{Bool, cond}
 use mathlib.Core.List.{List, [], _∷_}
