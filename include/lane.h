@@ -2,7 +2,14 @@
  *
  * Both functions are proved to meet the contracts below for every slice, of any length and any bytes. They keep no state, allocate nothing,
  * call memcpy and memset alone of the C library, and may be called from several threads at once. A slice is a pointer and a length; the
- * pointer is not null, also where the length is 0, and the bytes of `listing` overlap no other slice. `lane_bench` needs some 200 KB of stack.
+ * pointer is not null, also where the length is 0, and the bytes of `listing` overlap no other slice.
+ *
+ * Platform: the archive is for x86-64 Linux, as C's own calling convention there has it. Nothing checks these declarations against the proved
+ * source but the host in examples/, which the gate builds and runs.
+ *
+ * Stack: no proof speaks of it. Of this build 88,360 bytes were seen at the most in `lane_bench`, over 3,000 random lanes; of an earlier one some
+ * 158,000. It hangs on how the compiler lays functions into one another, so give a thread that calls it 256 KB. `lane_block_check` takes next
+ * to none.
  */
 #ifndef LANE_H
 #define LANE_H
