@@ -1,13 +1,14 @@
 /* The lane run-time for hosts written in C: the block check and the bench.
  *
- * Both functions are proved to meet the contracts below for every slice, of any length and any bytes. They keep no state, allocate nothing,
- * call memcpy and memset alone of the C library, and may be called from several threads at once. A slice is a pointer and a length; the
+ * Both functions are proved to meet the contracts below for every slice, of any length and any bytes. They keep no state, allocate nothing
+ * and call memcpy and memset alone of the C library; so several threads may call them at once, each with a `listing` of its own, while nobody
+ * writes the slices that they are lent (no proof speaks of threads). A slice is a pointer and a length; the
  * pointer is not null, also where the length is 0, and the bytes of `listing` overlap no other slice.
  *
  * Platform: the archive is for x86-64 Linux, as C's own calling convention there has it. Nothing checks these declarations against the proved
  * source but the host in examples/, which the gate builds and runs.
  *
- * Stack: no proof speaks of it. Of this build 88,360 bytes were seen at the most in `lane_bench`, over 3,000 random lanes; of an earlier one some
+ * Stack: no proof speaks of it. Of this build 88,456 bytes were seen at the most in `lane_bench`, over 3,000 random lanes; of an earlier one some
  * 158,000. It hangs on how the compiler lays functions into one another, so give a thread that calls it 256 KB. `lane_block_check` takes next
  * to none.
  */
