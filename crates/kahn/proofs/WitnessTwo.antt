@@ -199,6 +199,10 @@ rest₂ : AtRest (relay 2) input calls₂ w₂
 unfolding calls
 rest₂ = relay-rest 2 calls₂ w₂ fit₂ (refl, refl) refl refl
 
+moved₂ : movedIn calls₂ w₂ ≡ 18
+unfolding calls
+moved₂ = moved-is calls₂ w₂ fit₂
+
 between₂ : sent calls₂ w₂ 1 ≡ pos 5 ∷ negsuc 2 ∷ []
 unfolding calls
 between₂ = sent-is calls₂ w₂ fit₂ 1
