@@ -1,3 +1,4 @@
+pub mod InTurn
 pub mod Conds
 pub mod Unbounded
 pub mod Diamond
@@ -20,4 +21,6 @@ pub mod Files
 pub mod Whole
 pub mod Traces
 pub mod Tested
+pub mod Computed
 pub mod Witness
+pub mod WitnessTwo

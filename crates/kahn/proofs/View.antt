@@ -1,5 +1,5 @@
--- A lane with its cells is a board of the machine of its network: what a pick, a feed, a closing, a take and a relief do to the one is what the
--- calls of Bounded do to the other.
+-- A lane with its cells is a board of the machine of its network: a pick, a message put into a channel and a full channel are on the one what they
+-- are on the other.
 -- Assumes nothing.
 use mathlib.Core.Path.{_≡_, refl, sym, ap}
 use mathlib.Core.Logic.{_≢_}

@@ -2,90 +2,35 @@
 -- fair and come to rest, with refused calls, waits and a relief that enlarges among them; and what they sent is what it should be.
 -- Assumes nothing.
 use mathlib.Core.Path.{_≡_, refl, ap}
-use mathlib.Core.Bool.{true, cond, false≢true}
+use mathlib.Core.Bool.{true, false≢true}
 use mathlib.Core.List.{List, [], _∷_, _++_}
 use Prim.Native.Nat.{ℕ, zero, suc, _<_}
 use native.Mathlib.Omega.{arith}
-use borrow.Author.Tests.{ltb-true, eqb-true}
-use lib.Dec.{eqb, ltb}
-use lib.ListN.{length, getD, take as firstOf, replicate, length-replicate}
+use lib.ListN.{length, getD, take as firstOf, replicate}
 use lib.IntN.{ℤ, pos, negsuc}
-use Rattle.base.specs.Tests.{inTurn}
-use Rattle.base.specs.Lists.{values, joined}
 use Rattle.network.specs.declared.Network.{Network}
-use Rattle.network.specs.Code.{fieldsRight, standsRight}
-use Rattle.network.specs.Rules.{senderOf, outside, slots, endsRight, records, instructionRight, codeOf, instructions, unusedSlots, unusedRecords, passes}
-use Rattle.base.proofs.Conjunction.{both-true}
+use Rattle.network.specs.Rules.{senderOf, outside, passes}
 use Rattle.network.proofs.Unused.{passes-by}
-use Rattle.arithmetic.specs.Wrap.{residue, centred, wrap}
-use Rattle.process.specs.Process.{Process}
-use Rattle.process.specs.declared.Condition.{Condition}
 use Rattle.process.specs.declared.Condition.the-variants.{Live, Stopped, Faulted}
-use Rattle.process.specs.Want.{wantLive, want}
-use Rattle.process.specs.Execute.{execute, stepOf}
-use Rattle.process.specs.Window.{eight}
-use Rattle.lane.specs.State.{World, processOf, channelOf, standsAt, freshOf}
-use Rattle.lane.specs.Pick.{putBack, stepAt, pickIn}
+use Rattle.lane.specs.State.{World, processOf, channelOf}
 use Rattle.lane.specs.Calls.{moved, waitingEmpty, waitingFull, ended, accepted, value, theEnd, refused}
-use Rattle.lane.proofs.SoundLaws.{fresh-sound}
-use Rattle.relief.specs.Waits.{waitOf, pointing, fullWait, waitsAt}
-use Rattle.relief.specs.Rings.{iter, closesFrom, chain, firstFrom, search}
 use Rattle.relief.specs.Relief as relief
-use Rattle.block_check.specs.Crc.{crc}
-use Rattle.lane_file.specs.File.{firstBlock, codeBlock, fileOf}
+use Rattle.lane_file.specs.File.{fileOf}
 use Rattle.lane_file.proofs.RoundTrip.{Shaped}
-use Rattle.kahn.specs.Plain.{fromOutside, withoutCapacities, plainStart, resolve, plainStep, plainAfter}
-use Rattle.kahn.specs.Calls.{Call, pick, feed, close, take, relieve, Reply, told, relieved, after, taken, sent, movedIn}
+use Rattle.kahn.specs.Plain.{fromOutside, withoutCapacities, plainAfter}
+use Rattle.kahn.specs.Calls.{Call, pick, feed, close, take, relieve, told, relieved, after, taken, sent, movedIn}
 use Rattle.kahn.specs.Boards.{board, Fair, AtRest, Alike, AgreeWith}
 use Rattle.kahn.specs.Theorem.{ReadAs, Determined}
+use Rattle.kahn.proofs.InTurn.{plain, process, input}
 use Rattle.kahn.proofs.Tested.{alike-by, read-by}
-use Rattle.kahn.proofs.Traces.{Fit, bare, replies, replies-are, moved-is, sent-is, taken-is, left-is, FairOn, fair-by, WholeOn, Rests, rest-by}
+use Rattle.kahn.proofs.Traces.{Fit, replies, replies-are, moved-is, sent-is, taken-is, left-is, FairOn, fair-by, WholeOn, Rests, rest-by}
+use Rattle.kahn.proofs.Computed.{tests, files, calls, filled, many-filled, fit, outside-says, Entry, _⇒_, callsOf, repliesOf}
 use Rattle.kahn.proofs.Whole.{any-spare-fits}
-
--- ---- what is unfolded to compute the tests of a network, a file, a list of calls and the plain order
-tests : ℕ
-unfolding slots records endsRight unusedSlots unusedRecords instructions codeOf instructionRight standsRight fieldsRight inTurn
-tests = 0
-
-files : ℕ
-unfolding fileOf firstBlock codeBlock joined crc
-files = 0
-
-calls : ℕ
-unfolding bare freshOf values standsAt stepAt putBack pickIn eight stepOf execute want wantLive wrap centred residue waitOf pointing fullWait waitsAt iter closesFrom chain firstFrom search
-calls = 0
-
-plain : ℕ
-unfolding plainStart plainStep resolve standsAt want wantLive wrap centred residue
-plain = 0
-
--- ---- boards
-fit : (n : Network) (cells : List ℤ) → passes n ≡ true → length cells ≡ 8192 → Fit (board n cells)
-unfolding freshOf values
-fit n cells pass many = record { shaped = record { registers = refl; processes = refl; channels = refl }; sound = fresh-sound n pass; many = many }
-
--- a call with its answer
-data Entry : Type 0 where
-  _⇒_ : Call → Reply → Entry
-
-infix 80 _⇒_
-abbrev callsOf : List Entry → List Call
-callsOf [] = []
-callsOf ((k ⇒ r) ∷ es) = k ∷ callsOf es
-
-abbrev repliesOf : List Entry → List Reply
-repliesOf [] = []
-repliesOf ((k ⇒ r) ∷ es) = r ∷ repliesOf es
 
 -- what holds of process 0 holds of each of one process
 one-process : (P : ℕ → Type 0) → P 0 → (p : ℕ) → p < 1 → P p
 one-process P h zero l = h
 one-process P h (suc p) l = absurd (omega arith)
-
--- a process with two registers in use
-abbrev process : ℤ → ℤ → ℕ → Condition → ℕ → Process
-process x y position condition moves =
-    record { registers = x ∷ y ∷ replicate 6 (pos 0); position = position; condition = condition; moves = moves }
 
 -- ==== document 01's sample lane: one process, channel 0 in, 1 out; each message is doubled
 abbrev doubles : List ℕ
@@ -136,15 +81,11 @@ byte₂ : getD (fileOf (sample 2)) 75 0 ≡ 2
 unfolding files
 byte₂ = refl
 
--- "input 5, −3 on 0"
-abbrev input : ℕ → List ℤ
-input c = cond (eqb c 0) (pos 5 ∷ negsuc 2 ∷ []) []
-
 -- channel 0 alone comes from outside
 only : (k : ℕ) (P : ℕ → Type 0) → P 0 → (c : ℕ) → fromOutside (sample k) c ≡ true → P c
 only k P h c o =
-    let b = both-true (ltb c 2) (eqb (senderOf (sample k) c) outside) o in
-    at c (ltb-true c 2 (b .0)) (eqb-true (senderOf (sample k) c) outside (b .1))
+    let b = outside-says (sample k) c o in
+    at c (b .0) (b .1)
   where
     at : (c : ℕ) → c < 2 → senderOf (sample k) c ≡ outside → P c
     at zero l e = h
@@ -192,10 +133,10 @@ abbrev calls₁ : List Call
 calls₁ = callsOf entries₁
 
 abbrev cells₁ : List ℤ
-cells₁ = replicate 8192 (pos 0)
+cells₁ = filled (pos 0)
 
 many₁ : length cells₁ ≡ 8192
-many₁ = length-replicate {A = ℤ} 8192 (pos 0)
+many₁ = many-filled (pos 0)
 
 abbrev w₁ : World
 w₁ = board (sample 1) cells₁
@@ -283,10 +224,10 @@ abbrev calls₂ : List Call
 calls₂ = callsOf entries₂
 
 abbrev cells₂ : List ℤ
-cells₂ = replicate 8192 (pos 7)
+cells₂ = filled (pos 7)
 
 many₂ : length cells₂ ≡ 8192
-many₂ = length-replicate {A = ℤ} 8192 (pos 7)
+many₂ = many-filled (pos 7)
 
 abbrev w₂ : World
 w₂ = board (sample 2) cells₂
@@ -382,8 +323,8 @@ own-alike = alike-by (fileOf (own 1)) (fileOf (own 2)) refl
 -- no channel comes from outside
 inside : (k : ℕ) (P : ℕ → Type 0) (c : ℕ) → fromOutside (own k) c ≡ true → P c
 inside k P c o =
-    let b = both-true (ltb c 1) (eqb (senderOf (own k) c) outside) o in
-    absurd (at c (ltb-true c 1 (b .0)) (eqb-true (senderOf (own k) c) outside (b .1)))
+    let b = outside-says (own k) c o in
+    absurd (at c (b .0) (b .1))
   where
     at : (c : ℕ) → c < 1 → senderOf (own k) c ≡ outside → ⊥
     at zero l e = omega arith

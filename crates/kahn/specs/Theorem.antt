@@ -1,5 +1,5 @@
--- Demand 3, the statement: two files alike but for the capacities and block 0's check, any 8,192 cells each, any input, any lists of calls that are
--- fair to it. `any-spare-fits` of proofs/Whole.antt proves it.
+-- Demand 3, the statement: of one board, and of two whose files are alike but for the capacities and block 0's check; any 8,192 cells each, any input,
+-- any lists of calls that are fair to it. `one-board-holds` and `any-spare-fits` of proofs/Whole.antt prove them.
 -- Assumes nothing.
 use mathlib.Core.Path.{_≡_}
 use mathlib.Core.List.{List}
@@ -24,7 +24,15 @@ pub record Holds (n : Network) (input : ℕ → List ℤ) (calls : List Call) (w
   -- (b)
   pub rests : AtRest n input calls w → (rounds : ℕ) → movedIn calls w ≤ rounds → Agrees n input calls w (plainAfter (withoutCapacities n) input rounds)
 
--- and of two
+-- "after the list what the board sent on any channel is a beginning of what the plain order sends .. A board at rest .. agrees with that order": every
+-- file that is read, whatever its capacities, with no second board beside it
+abbrev pub OneBoardHolds : Type 0
+OneBoardHolds =
+    (f : List ℕ) (n : Network) → ReadAs f n → (cells : List ℤ) → length cells ≡ 8192
+    → (input : ℕ → List ℤ) (calls : List Call) → Fair n input calls (board n cells)
+    → Holds n input calls (board n cells)
+
+-- what holds of two
 pub record Determined (n₁ n₂ : Network) (input : ℕ → List ℤ) (calls₁ calls₂ : List Call) (w₁ w₂ : World) : Type 0 where
   -- one plain order for both
   pub same : withoutCapacities n₁ ≡ withoutCapacities n₂

@@ -1,0 +1,75 @@
+-- What the witnesses share: what is unfolded to compute, cells and a board to compute on, a call beside its answer.
+-- Assumes nothing.
+use mathlib.Core.Path.{_≡_, refl}
+use mathlib.Core.Bool.{true}
+use mathlib.Core.List.{List, [], _∷_}
+use Prim.Native.Nat.{ℕ, _<_}
+use borrow.Author.Tests.{ltb-true, eqb-true}
+use lib.Dec.{eqb, ltb}
+use lib.ListN.{length, replicate, length-replicate}
+use lib.IntN.{ℤ}
+use Rattle.base.specs.Tests.{inTurn}
+use Rattle.base.specs.Lists.{values, joined}
+use Rattle.network.specs.declared.Network.{Network}
+use Rattle.network.specs.Code.{fieldsRight, standsRight}
+use Rattle.network.specs.Rules.{senderOf, outside, slots, endsRight, records, instructionRight, codeOf, instructions, unusedSlots, unusedRecords, passes}
+use Rattle.base.proofs.Conjunction.{both-true}
+use Rattle.arithmetic.specs.Wrap.{residue, centred, wrap}
+use Rattle.process.specs.Want.{wantLive, want}
+use Rattle.process.specs.Execute.{execute, stepOf}
+use Rattle.process.specs.Window.{eight}
+use Rattle.lane.specs.State.{standsAt, freshOf}
+use Rattle.lane.specs.Pick.{putBack, stepAt, pickIn}
+use Rattle.lane.proofs.SoundLaws.{fresh-sound}
+use Rattle.relief.specs.Waits.{waitOf, pointing, fullWait, waitsAt}
+use Rattle.relief.specs.Rings.{iter, closesFrom, chain, firstFrom, search}
+use Rattle.block_check.specs.Crc.{crc}
+use Rattle.lane_file.specs.File.{firstBlock, codeBlock, fileOf}
+use Rattle.kahn.specs.Plain.{fromOutside}
+use Rattle.kahn.specs.Calls.{Call, Reply}
+use Rattle.kahn.specs.Boards.{board}
+use Rattle.kahn.proofs.Traces.{Fit, bare}
+
+-- ---- what is unfolded to compute the tests of a network, a file and a list of calls (for the plain order: InTurn)
+unfoldable pub tests : ℕ
+unfolding slots records endsRight unusedSlots unusedRecords instructions codeOf instructionRight standsRight fieldsRight inTurn
+tests = 0
+
+unfoldable pub files : ℕ
+unfolding fileOf firstBlock codeBlock joined crc
+files = 0
+
+unfoldable pub calls : ℕ
+unfolding bare freshOf values standsAt stepAt putBack pickIn eight stepOf execute want wantLive wrap centred residue waitOf pointing fullWait waitsAt iter closesFrom chain firstFrom search
+calls = 0
+
+-- ---- boards
+-- cells that all hold v
+abbrev pub filled : ℤ → List ℤ
+filled v = replicate 8192 v
+
+pub many-filled : (v : ℤ) → length (filled v) ≡ 8192
+many-filled v = length-replicate {A = ℤ} 8192 v
+
+pub fit : (n : Network) (cells : List ℤ) → passes n ≡ true → length cells ≡ 8192 → Fit (board n cells)
+unfolding freshOf values
+fit n cells pass many = record { shaped = record { registers = refl; processes = refl; channels = refl }; sound = fresh-sound n pass; many = many }
+
+-- a channel from outside is there, and 255 is its sender
+pub outside-says : (n : Network) (c : ℕ) → fromOutside n c ≡ true → (c < n .channels) × (senderOf n c ≡ outside)
+outside-says n c o =
+    let b = both-true (ltb c (n .channels)) (eqb (senderOf n c) outside) o in
+    (ltb-true c (n .channels) (b .0), eqb-true (senderOf n c) outside (b .1))
+
+-- ---- a call with its answer
+pub data Entry : Type 0 where
+  _⇒_ : Call → Reply → Entry
+
+infix 80 _⇒_
+abbrev pub callsOf : List Entry → List Call
+callsOf [] = []
+callsOf ((k ⇒ r) ∷ es) = k ∷ callsOf es
+
+abbrev pub repliesOf : List Entry → List Reply
+repliesOf [] = []
+repliesOf ((k ⇒ r) ∷ es) = r ∷ repliesOf es
