@@ -1,5 +1,5 @@
--- "In a round processes 0 to P−1 do one instruction each, in turn", computed: what process 0 sends, process 1 receives in the same round. Demand 3 would
--- hold with any order inside a round; these facts say which it is, and fail with process 1 first, or with both on what the last round left.
+-- "In a round processes 0 to P−1 do one instruction each, in turn", computed: what process 0 sends, process 1 receives in the same round.
+-- These facts say which order it is: they fail with process 1 first, or with both on what the last round left.
 -- Assumes nothing.
 use mathlib.Core.Path.{_≡_, refl}
 use mathlib.Core.Bool.{cond}
