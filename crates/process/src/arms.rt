@@ -12,7 +12,7 @@ ghost use Prim.Native.Nat.{ℕ, _+_, _≤_, _<_};
 ghost use lib.IntN.{ℤ, pos};
 ghost use lib.ListN.{getD};
 ghost use Rattle.arithmetic.specs.Wrap.{sumOf, differenceOf, productOf};
-ghost use Rattle.arithmetic.specs.Quotient.{quotientOf, remainderOf};
+ghost use Rattle.arithmetic.specs.Quotient.{told, quotientOf, remainderOf};
 ghost use Rattle.process.specs.Intent.{receive, send, close};
 ghost use Rattle.process.specs.Want.{registerOf, onward, assigned, jumped, stopped, faulted, signed16, isNull, isNegative, divided, wantLive};
 ghost use Rattle.process.specs.Execute.{outcome, execute};
@@ -103,7 +103,7 @@ pub fn stay(stance: Stance, channel: Channel, o: Outcome) -> Change
 // A quotient or a remainder into register a; a zero divisor faults.
 fn put_divided(d: Divided, stance: Stance, channel: Channel) -> Change
     requires { ⌜ stance .position < 256 ⌝ }
-    ensures { λ r. ⌜ ((a : ℕ) (m : ℤ) (g : Bool) → Means a stance r (λ q. execute (divided a d q) q channel m g)) ⌝ }
+    ensures { λ r. ⌜ ((a : ℕ) (m : ℤ) (g : Bool) → Means a stance r (λ q. execute (divided a (told d) q) q channel m g)) ⌝ }
 {
     match d {
         Divided::By(v) => assign(stance, channel, v),
