@@ -63,9 +63,10 @@ fn proceed(stance: Stance, channel: Channel, o: Outcome) -> Change
 fn jump_to(stance: Stance, channel: Channel, c: u8) -> Change
     ensures { λ r. ⌜ r ≡ record { value = stance .own; position = c; condition = stance .condition; channel = channel; outcome = Outcome.Moved } ⌝ }
 {
+    let own = stance.own;
     let condition = stance.condition;
     Change {
-        value: stance.own,
+        value: own,
         position: c as u16,
         condition,
         channel,
@@ -77,9 +78,10 @@ fn jump_to(stance: Stance, channel: Channel, c: u8) -> Change
 fn end(stance: Stance, channel: Channel, condition: Condition) -> Change
     ensures { λ r. ⌜ r ≡ record { value = stance .own; position = stance .position; condition = condition; channel = channel; outcome = Outcome.Halted } ⌝ }
 {
+    let position = stance.position;
     Change {
         value: stance.own,
-        position: stance.position,
+        position,
         condition,
         channel,
         outcome: Outcome::Halted,
@@ -283,7 +285,7 @@ fn close(stance: Stance, channel: Channel) -> Change
     proceed(stance, channel.close(), Outcome::Moved)
 }
 
-// A live process's instruction, by its opcode; one above 13 faults. The caller has shown what it requires.
+// A live process's instruction, by its opcode; one above 13 faults. Public for `step`, whose caller has shown what it requires.
 pub fn execute(
     i: Instruction,
     file: &[i32; 128],
