@@ -7,7 +7,7 @@ use Rattle.arithmetic.specs.declared.Divided.{Divided}
 use Rattle.arithmetic.specs.declared.Divided.the-variants.{By, Zero}
 use Rattle.arithmetic.specs.Wrap.{wrap}
 
--- what divide and remainder come to: a value, or "A zero divisor faults."
+-- what divide and remainder come to, in document 01's words: a number, or a fault
 pub data Quotient : Type 0 where
   value : ℤ → Quotient
   faults : Quotient
@@ -17,6 +17,7 @@ abbrev pub told : Divided → Quotient
 told (By v) = value v
 told Zero = faults
 
+-- "A zero divisor faults."
 abbrev pub unlessZero : ℤ → Quotient → Quotient
 unlessZero (pos zero) d = faults
 unlessZero (pos (suc n)) d = d
