@@ -11,44 +11,42 @@ use lib.IntN.{ℤ, pos, negsuc, negℤ, natAbs, pos-ne-negsuc, _+ℤ_, _-ℤ_, _
 use lib.Signed.{mag, nonNeg, quotZ, remZ, mag-rem}
 use mir.Syntax.{w32}
 use mir.Val.{SFits}
-use Rattle.arithmetic.specs.declared.Divided.{Divided}
-use Rattle.arithmetic.specs.declared.Divided.the-variants.{By, Zero}
 use Rattle.arithmetic.specs.Wrap.{residue, centred, wrap}
-use Rattle.arithmetic.specs.Quotient.{unlessZero, quotientOf, remainderOf}
+use Rattle.arithmetic.specs.Quotient.{Quotient, value, faults, unlessZero, quotientOf, remainderOf}
 use Rattle.arithmetic.proofs.Integers.{by-difference, mag-negate, negate-product, distribute, exchange}
 use Rattle.arithmetic.proofs.WrapLaws.{wrap-fits, wrap-same}
 
 -- ---- the answers
-pub quotient-zero : (x : ℤ) → quotientOf x (pos 0) ≡ Zero
+pub quotient-zero : (x : ℤ) → quotientOf x (pos 0) ≡ faults
 unfolding quotientOf
 quotient-zero x = refl
 
-pub remainder-zero : (x : ℤ) → remainderOf x (pos 0) ≡ Zero
+pub remainder-zero : (x : ℤ) → remainderOf x (pos 0) ≡ faults
 unfolding remainderOf
 remainder-zero x = refl
 
-unless : (y : ℤ) (d : Divided) → (y ≡ pos 0 → ⊥) → unlessZero y d ≡ d
+unless : (y : ℤ) (d : Quotient) → (y ≡ pos 0 → ⊥) → unlessZero y d ≡ d
 unless (pos zero) d n = absurd (n refl)
 unless (pos (suc k)) d n = refl
 unless (negsuc k) d n = refl
 
-pub quotient-by : (x y : ℤ) → (y ≡ pos 0 → ⊥) → SFits w32 (quotZ x y) → quotientOf x y ≡ By (quotZ x y)
+pub quotient-by : (x y : ℤ) → (y ≡ pos 0 → ⊥) → SFits w32 (quotZ x y) → quotientOf x y ≡ value (quotZ x y)
 unfolding quotientOf
-quotient-by x y n h = unless y (By (wrap (quotZ x y))) n ∙ ap By (wrap-same h)
+quotient-by x y n h = unless y (value (wrap (quotZ x y))) n ∙ ap value (wrap-same h)
 
-pub remainder-by : (x y : ℤ) → (y ≡ pos 0 → ⊥) → remainderOf x y ≡ By (remZ x y)
+pub remainder-by : (x y : ℤ) → (y ≡ pos 0 → ⊥) → remainderOf x y ≡ value (remZ x y)
 unfolding remainderOf
-remainder-by x y n = unless y (By (remZ x y)) n
+remainder-by x y n = unless y (value (remZ x y)) n
 
 -- the least number by −1
-pub quotient-least : quotientOf (negsuc 2147483647) (negsuc 0) ≡ By (negsuc 2147483647)
+pub quotient-least : quotientOf (negsuc 2147483647) (negsuc 0) ≡ value (negsuc 2147483647)
 unfolding quotientOf wrap residue centred
 quotient-least = refl
 
-pub remainder-one : (x : ℤ) → remainderOf x (negsuc 0) ≡ By (pos 0)
+pub remainder-one : (x : ℤ) → remainderOf x (negsuc 0) ≡ value (pos 0)
 unfolding remainderOf
-remainder-one (pos a) = ap (λ (n : ℕ). By (pos n)) (mod-one a)
-remainder-one (negsuc a) = ap (λ (n : ℕ). By (negℤ (pos n))) (mod-one (suc a))
+remainder-one (pos a) = ap (λ (n : ℕ). value (pos n)) (mod-one a)
+remainder-one (negsuc a) = ap (λ (n : ℕ). value (negℤ (pos n))) (mod-one (suc a))
 
 -- ---- they are numbers of 32 bits
 mag-quotient : (x y : ℤ) → mag x < 2147483648 → (x ≡ negsuc 2147483647 → y ≡ negsuc 0 → ⊥) → mag (quotZ x y) < 2147483648
@@ -67,16 +65,16 @@ pub remainder-fits : {x : ℤ} (y : ℤ) → SFits w32 x → SFits w32 (remZ x y
 remainder-fits {x} y h = record { sfits = omega (arith, h .sfits, mag-rem x y) }
 
 -- so is every number that is answered
-answered : (y q a : ℤ) → unlessZero y (By a) ≡ By q → SFits w32 a → SFits w32 q
+answered : (y q a : ℤ) → unlessZero y (value a) ≡ value q → SFits w32 a → SFits w32 q
 answered (pos zero) q a e h = let z : _≡_ {A = ℕ} 0 1 = cc in absurd (omega arith)
 answered (pos (suc n)) q a e h = let z : a ≡ q = cc in subst (SFits w32) z h
 answered (negsuc n) q a e h = let z : a ≡ q = cc in subst (SFits w32) z h
 
-pub quotient-answer-fits : (x y : ℤ) {q : ℤ} → quotientOf x y ≡ By q → SFits w32 q
+pub quotient-answer-fits : (x y : ℤ) {q : ℤ} → quotientOf x y ≡ value q → SFits w32 q
 unfolding quotientOf
 quotient-answer-fits x y {q} e = answered y q (wrap (quotZ x y)) e (wrap-fits (quotZ x y))
 
-pub remainder-answer-fits : {x : ℤ} (y : ℤ) {r : ℤ} → SFits w32 x → remainderOf x y ≡ By r → SFits w32 r
+pub remainder-answer-fits : {x : ℤ} (y : ℤ) {r : ℤ} → SFits w32 x → remainderOf x y ≡ value r → SFits w32 r
 unfolding remainderOf
 remainder-answer-fits {x} y {r} h e = answered y r (remZ x y) e (remainder-fits y h)
 
@@ -183,9 +181,9 @@ module _ {x y q r p s : ℤ} (d : Division x y q r) (e : Division x y p s) where
 
 -- ---- the answers at every pair that has a quotient of 32 bits
 module _ {x : ℤ} (y : ℤ) (h : SFits w32 x) (n : y ≡ pos 0 → ⊥) (m : x ≡ negsuc 2147483647 → y ≡ negsuc 0 → ⊥) where
-  pub divided : (q : ℤ) × (r : ℤ) × (quotientOf x y ≡ By q) × (remainderOf x y ≡ By r) × Division x y q r
+  pub divided : (q : ℤ) × (r : ℤ) × (quotientOf x y ≡ value q) × (remainderOf x y ≡ value r) × Division x y q r
   divided = (quotZ x y, remZ x y, quotient-by x y n (quotient-fits y h m), remainder-by x y n, division x y n)
 
-  pub divided-only : {q r : ℤ} → Division x y q r → (quotientOf x y ≡ By q) × (remainderOf x y ≡ By r)
+  pub divided-only : {q r : ℤ} → Division x y q r → (quotientOf x y ≡ value q) × (remainderOf x y ≡ value r)
   divided-only d =
-      (quotient-by x y n (quotient-fits y h m) ∙ ap By (division-quotient (division x y n) d), remainder-by x y n ∙ ap By (division-remainder (division x y n) d))
+      (quotient-by x y n (quotient-fits y h m) ∙ ap value (division-quotient (division x y n) d), remainder-by x y n ∙ ap value (division-remainder (division x y n) d))

@@ -1,7 +1,7 @@
 // Arithmetic on signed 32-bit numbers: sum, difference and product wrap; quotient and remainder.
 ghost use mathlib.Core.Path.{_≡_};
 ghost use Rattle.arithmetic.specs.Wrap.{wrap, sumOf, differenceOf, productOf};
-ghost use Rattle.arithmetic.specs.Quotient.{quotientOf, remainderOf};
+ghost use Rattle.arithmetic.specs.Quotient.{told, quotientOf, remainderOf};
 
 // A number, or that the divisor is zero.
 pub enum Divided {
@@ -35,7 +35,7 @@ pub fn product(x: i32, y: i32) -> i32
 }
 
 pub fn quotient(x: i32, y: i32) -> Divided
-    ensures { λ r. ⌜ r ≡ quotientOf x y ⌝ }
+    ensures { λ r. ⌜ told r ≡ quotientOf x y ⌝ }
 {
     if y == 0 {
         return Divided::Zero;
@@ -49,7 +49,7 @@ pub fn quotient(x: i32, y: i32) -> Divided
 }
 
 pub fn remainder(x: i32, y: i32) -> Divided
-    ensures { λ r. ⌜ r ≡ remainderOf x y ⌝ }
+    ensures { λ r. ⌜ told r ≡ remainderOf x y ⌝ }
 {
     match y {
         0 => Divided::Zero,

@@ -16,9 +16,7 @@ use Rattle.network.specs.Code.{fieldsRight, register, unnamed, target}
 use Rattle.network.specs.Rules.{senderOf, receiverOf, receives, sends}
 use Rattle.base.proofs.Conjunction.{middle}
 use Rattle.base.proofs.Numbers.{each-one}
-use Rattle.arithmetic.specs.declared.Divided.{Divided}
-use Rattle.arithmetic.specs.declared.Divided.the-variants.{By, Zero}
-use Rattle.arithmetic.specs.Quotient.{quotientOf, remainderOf}
+use Rattle.arithmetic.specs.Quotient.{Quotient, value, faults, quotientOf, remainderOf}
 use Rattle.process.specs.declared.Condition.{Condition}
 use Rattle.process.specs.declared.Condition.the-variants.{Live, Stopped, Faulted}
 use Rattle.process.specs.Process.{Process}
@@ -49,9 +47,9 @@ module _ (n : Network) (p count : ℕ) (q : Process) where
   abbrev Own : Intent Process ℤ → Type 0
   Own t = Owns (senderIn n) (receiverIn n) p t
 
-  divided-owns : (r : ℕ) (d : Divided) → Own (divided r d q)
-  divided-owns r (By v) = tt
-  divided-owns r Zero = tt
+  divided-owns : (r : ℕ) (d : Quotient) → Own (divided r d q)
+  divided-owns r (value v) = tt
+  divided-owns r faults = tt
 
   live-owns : (i : Instruction) → fieldsRight count (receives n p (i .b)) (sends n p (i .b)) i ≡ true → Own (wantLive i q)
   unfolding fieldsRight wantLive
@@ -120,9 +118,9 @@ On c (close b next fault) = b ≡ c
 On c (halt x) = Unit {0}
 
 module _ (q : Process) where
-  divided-on : (c r : ℕ) (d : Divided) → On c (divided r d q)
-  divided-on c r (By v) = tt
-  divided-on c r Zero = tt
+  divided-on : (c r : ℕ) (d : Quotient) → On c (divided r d q)
+  divided-on c r (value v) = tt
+  divided-on c r faults = tt
 
   live-on : (i : Instruction) → On (i .b) (wantLive i q)
   unfolding wantLive
@@ -200,9 +198,9 @@ module _ (q : Process) (live : hasEnded q ≡ false) (fit : Fit q) where
   assigned-goes : (r : ℕ) (v : ℤ) → (hasEnded (assigned r v q) ≡ false) × Fit (assigned r v q)
   assigned-goes r v = (live, length-set (q .registers) r v ∙ fit)
 
-  divided-leads : (r : ℕ) (d : Divided) → Leads (divided r d q)
-  divided-leads r (By v) = assigned-goes r v
-  divided-leads r Zero = (refl, fit)
+  divided-leads : (r : ℕ) (d : Quotient) → Leads (divided r d q)
+  divided-leads r (value v) = assigned-goes r v
+  divided-leads r faults = (refl, fit)
 
   branched-leads : (t : Bool) (c : ℕ) → Leads (branched t c q)
   branched-leads t c = goes t (jumped c q) (onward (q .registers) q) (live, fit) (live, fit)
@@ -287,9 +285,9 @@ module _ (q : Process) (shut : Bool) (c : ℕ) where
   abbrev Says : Instruction → Intent Process ℤ → Type 0
   Says i t = messageOf t shut c ≡ one (eqb (i .op) 12 && eqb (i .b) c && not shut) (registerOf q (i .a))
 
-  divided-silent : (r : ℕ) (d : Divided) → messageOf (divided r d q) shut c ≡ []
-  divided-silent r (By v) = refl
-  divided-silent r Zero = refl
+  divided-silent : (r : ℕ) (d : Quotient) → messageOf (divided r d q) shut c ≡ []
+  divided-silent r (value v) = refl
+  divided-silent r faults = refl
 
   live-message : (i : Instruction) → Says i (wantLive i q)
   unfolding wantLive

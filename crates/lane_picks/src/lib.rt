@@ -19,7 +19,7 @@ ghost use Rattle.process.specs.Channels.{slot, dropOne};
 ghost use Rattle.process.specs.Changes.{movesAfter, isHalted};
 ghost use Rattle.lane.specs.State.{world};
 ghost use Rattle.lane.specs.Sound.{soundOf};
-ghost use Rattle.lane.specs.Pick.{channelIn, dropFrom, hasMoved, progressOf, pickAll, roundsOf, pickRounds, unpicked};
+ghost use Rattle.lane.specs.Pick.{channelIn, dropFrom, hasMoved, pickAll, roundsEnd, roundsOf, pickRounds, unpicked};
 ghost use Rattle.lane_picks.specs.Turn.{wordAfter, ends, onwardOf};
 
 // ---- the process that is picked
@@ -294,10 +294,10 @@ pub fn pick_rounds(lane: Lane, cells: &mut [i32], picks: &[u8], again: u64) -> R
     ran(l, stage, last, channel)
 }
 
-// Picks one after the other: a single round. Public for the crates above, which have shown what it requires.
+// Picks one after the other: a single round, and none is left to follow. Public for the crates above, which have shown what it requires.
 pub fn pick_all(lane: Lane, cells: &mut [i32], picks: &[u8]) -> Ran
     requires { ⌜ (soundOf lane ≡ true) × (length (now cells) ≡ 8192) × ((k : ℕ) → k < length (now picks) → getD (now picks) k 0 < lane .network .processes) ⌝ }
-    ensures { λ r. ⌜ progressOf r (now (cells .exit)) ≡ pickAll (now (picks .entry)) (unpicked (world lane (now (cells .entry)))) ⌝ }
+    ensures { λ r. ⌜ roundsOf r (now (cells .exit)) ≡ roundsEnd (pickAll (now (picks .entry)) (unpicked (world lane (now (cells .entry))))) 0 ⌝ }
 {
     pick_rounds(lane, cells, picks, 0)
 }

@@ -11,9 +11,7 @@ use Rattle.base.proofs.Conjunction.{middle}
 use Rattle.base.proofs.Numbers.{each-one}
 use Rattle.network.specs.declared.Instruction.{Instruction}
 use Rattle.network.specs.Code.{fieldsRight, register, unnamed, target}
-use Rattle.arithmetic.specs.declared.Divided.{Divided}
-use Rattle.arithmetic.specs.declared.Divided.the-variants.{By, Zero}
-use Rattle.arithmetic.specs.Quotient.{quotientOf, remainderOf}
+use Rattle.arithmetic.specs.Quotient.{Quotient, value, faults, quotientOf, remainderOf}
 use Rattle.process.specs.declared.Condition.{Condition}
 use Rattle.process.specs.declared.Condition.the-variants.{Live, Stopped, Faulted}
 use Rattle.process.specs.Process.{Process}
@@ -34,9 +32,9 @@ AtEnd receives sends (close b next fault) = sends ≡ true
 AtEnd receives sends (halt x) = Unit {0}
 
 module _ (count : ℕ) (receives sends : Bool) (q : Process) where
-  divided-at-end : (r : ℕ) (d : Divided) → AtEnd receives sends (divided r d q)
-  divided-at-end r (By v) = tt
-  divided-at-end r Zero = tt
+  divided-at-end : (r : ℕ) (d : Quotient) → AtEnd receives sends (divided r d q)
+  divided-at-end r (value v) = tt
+  divided-at-end r faults = tt
 
   live-at-end : (i : Instruction) → fieldsRight count receives sends i ≡ true → AtEnd receives sends (wantLive i q)
   unfolding fieldsRight wantLive

@@ -15,9 +15,7 @@ use Rattle.process.specs.Changes.{isHalted}
 use Rattle.base.proofs.Conjunction.{both-true}
 use Rattle.network.specs.Code.{register, unnamed, fieldsRight, mayBeLast, standsRight}
 use Rattle.network.specs.declared.Instruction.{Instruction}
-use Rattle.arithmetic.specs.declared.Divided.{Divided}
-use Rattle.arithmetic.specs.declared.Divided.the-variants.{By, Zero}
-use Rattle.arithmetic.specs.Quotient.{quotientOf, remainderOf}
+use Rattle.arithmetic.specs.Quotient.{Quotient, value, faults, quotientOf, remainderOf}
 use Rattle.process.specs.declared.Condition.{Condition}
 use Rattle.process.specs.declared.Condition.the-variants.{Live, Stopped, Faulted}
 use Rattle.process.specs.Process.{Process, Stepped}
@@ -130,9 +128,9 @@ module _ (G E : Process → Type 0) (i : Instruction) (q : Process)
   branches true g n = g
   branches false g n = proceeds n
 
-  divides : (d : Divided) → mayBeLast (i .op) ≡ false → Every G E (divided (i .a) d q)
-  divides (By v) n = assigns v n
-  divides Zero n = fault
+  divides : (d : Quotient) → mayBeLast (i .op) ≡ false → Every G E (divided (i .a) d q)
+  divides (value v) n = assigns v n
+  divides faults n = fault
 
   leads : Every G E (wantLive i q)
   unfolding wantLive

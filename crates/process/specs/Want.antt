@@ -7,10 +7,8 @@ use lib.Dec.{ltb}
 use lib.ListN.{getD, set}
 use lib.IntN.{ℤ, pos, negsuc, _-ℤ_}
 use Rattle.network.specs.declared.Instruction.{Instruction}
-use Rattle.arithmetic.specs.declared.Divided.{Divided}
-use Rattle.arithmetic.specs.declared.Divided.the-variants.{By, Zero}
 use Rattle.arithmetic.specs.Wrap.{sumOf, differenceOf, productOf}
-use Rattle.arithmetic.specs.Quotient.{quotientOf, remainderOf}
+use Rattle.arithmetic.specs.Quotient.{Quotient, value, faults, quotientOf, remainderOf}
 use Rattle.process.specs.declared.Condition.{Condition}
 use Rattle.process.specs.declared.Condition.the-variants.{Live, Stopped, Faulted}
 use Rattle.process.specs.Process.{Process}
@@ -60,9 +58,9 @@ isNegative (pos n) = false
 isNegative (negsuc n) = true
 
 -- a quotient or remainder into register a: "A zero divisor faults."
-abbrev pub divided : ℕ → Divided → Process → Intent Process ℤ
-divided a (By v) q = inner (assigned a v q)
-divided a Zero q = halt (faulted q)
+abbrev pub divided : ℕ → Quotient → Process → Intent Process ℤ
+divided a (value v) q = inner (assigned a v q)
+divided a faults q = halt (faulted q)
 
 -- to c if the test holds, else on
 abbrev pub branched : Bool → ℕ → Process → Intent Process ℤ

@@ -12,7 +12,7 @@ ghost use Prim.Native.Nat.{ℕ, _+_, _≤_, _<_};
 ghost use lib.IntN.{ℤ, pos};
 ghost use lib.ListN.{getD};
 ghost use Rattle.arithmetic.specs.Wrap.{sumOf, differenceOf, productOf};
-ghost use Rattle.arithmetic.specs.Quotient.{quotientOf, remainderOf};
+ghost use Rattle.arithmetic.specs.Quotient.{told, quotientOf, remainderOf};
 ghost use Rattle.process.specs.Intent.{receive, send, close};
 ghost use Rattle.process.specs.Want.{registerOf, onward, assigned, jumped, stopped, faulted, signed16, isNull, isNegative, divided, wantLive};
 ghost use Rattle.process.specs.Execute.{outcome, execute};
@@ -63,9 +63,10 @@ fn proceed(stance: Stance, channel: Channel, o: Outcome) -> Change
 fn jump_to(stance: Stance, channel: Channel, c: u8) -> Change
     ensures { λ r. ⌜ r ≡ record { value = stance .own; position = c; condition = stance .condition; channel = channel; outcome = Outcome.Moved } ⌝ }
 {
+    let own = stance.own;
     let condition = stance.condition;
     Change {
-        value: stance.own,
+        value: own,
         position: c as u16,
         condition,
         channel,
@@ -77,9 +78,10 @@ fn jump_to(stance: Stance, channel: Channel, c: u8) -> Change
 fn end(stance: Stance, channel: Channel, condition: Condition) -> Change
     ensures { λ r. ⌜ r ≡ record { value = stance .own; position = stance .position; condition = condition; channel = channel; outcome = Outcome.Halted } ⌝ }
 {
+    let position = stance.position;
     Change {
         value: stance.own,
-        position: stance.position,
+        position,
         condition,
         channel,
         outcome: Outcome::Halted,
@@ -103,7 +105,7 @@ pub fn stay(stance: Stance, channel: Channel, o: Outcome) -> Change
 // A quotient or a remainder into register a; a zero divisor faults.
 fn put_divided(d: Divided, stance: Stance, channel: Channel) -> Change
     requires { ⌜ stance .position < 256 ⌝ }
-    ensures { λ r. ⌜ ((a : ℕ) (m : ℤ) (g : Bool) → Means a stance r (λ q. execute (divided a d q) q channel m g)) ⌝ }
+    ensures { λ r. ⌜ ((a : ℕ) (m : ℤ) (g : Bool) → Means a stance r (λ q. execute (divided a (told d) q) q channel m g)) ⌝ }
 {
     match d {
         Divided::By(v) => assign(stance, channel, v),
@@ -283,7 +285,7 @@ fn close(stance: Stance, channel: Channel) -> Change
     proceed(stance, channel.close(), Outcome::Moved)
 }
 
-// A live process's instruction, by its opcode; one above 13 faults. The caller has shown what it requires.
+// A live process's instruction, by its opcode; one above 13 faults. Public for `step`, whose caller has shown what it requires.
 pub fn execute(
     i: Instruction,
     file: &[i32; 128],

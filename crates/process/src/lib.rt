@@ -106,7 +106,8 @@ pub fn counted(n: u64) -> u64
 }
 
 // One instruction of a process whose registers lie in the file from a base on: the record of its channel b, the oldest message
-// there, and whether that channel's receiver has ended. Public for the crates above, which have shown what it requires.
+// there, and whether that channel's receiver has ended. Public for the crates above, which have shown what it requires: the instruction passes
+// the file's rules, and position, channel and register a are those of a sound lane.
 pub fn step(
     i: Instruction,
     file: &[i32; 128],

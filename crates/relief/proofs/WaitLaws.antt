@@ -17,9 +17,7 @@ use Rattle.network.specs.declared.Instruction.{Instruction}
 use Rattle.network.specs.Rules.{countOf, startOf, senderOf, receiverOf, slotZero, unusedSlots, outside}
 use Rattle.base.proofs.Conjunction.{both-true}
 use Rattle.network.proofs.Passed.{passed}
-use Rattle.arithmetic.specs.declared.Divided.{Divided}
-use Rattle.arithmetic.specs.declared.Divided.the-variants.{By, Zero}
-use Rattle.arithmetic.specs.Quotient.{quotientOf, remainderOf}
+use Rattle.arithmetic.specs.Quotient.{Quotient, value, faults, quotientOf, remainderOf}
 use Rattle.process.specs.declared.Condition.{Condition}
 use Rattle.process.specs.declared.Condition.the-variants.{Live, Stopped, Faulted}
 use Rattle.process.specs.Process.{Process}
@@ -49,10 +47,10 @@ apart true c = refl
 apart false c = refl
 
 module _ (q : Process) (h : Channel) (c : ℕ) where
-  divides : (a : ℕ) (d : Divided) (m : ℤ) (gone : Bool) → waitIn (execute (divided a d q) q h m gone .outcome) c ≡ free
+  divides : (a : ℕ) (d : Quotient) (m : ℤ) (gone : Bool) → waitIn (execute (divided a d q) q h m gone .outcome) c ≡ free
   unfolding execute
-  divides a (By v) m gone = refl
-  divides a Zero m gone = refl
+  divides a (value v) m gone = refl
+  divides a faults m gone = refl
 
   receives : (t u : Bool) (x y : Process)
       → waitIn (cond t (cond u (outcome y h Moved) (outcome q h WaitEmpty)) (outcome x (getOne h) Moved) .outcome) c ≡ waitAs (cond (not u) (cond t Empty Free) Free) c

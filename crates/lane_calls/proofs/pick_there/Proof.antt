@@ -1,10 +1,10 @@
 -- `lane_calls::pick_there` meets its contract: the pick is the loop over picks at one of them.
 -- Assumes nothing.
-use mathlib.Core.Path.{_≡_}
+use mathlib.Core.Path.{_≡_, ap}
 use native.Mathlib.Omega.{arith}
 use borrow.Author.Needs.{needs}
 use Rattle.lane.specs.State.{world}
-use Rattle.lane.specs.Pick.{progressOf}
+use Rattle.lane.specs.Pick.{progressOf, Rounds}
 use Rattle.lane_calls.proofs.TestLaws.{picked-is, process-below}
 use Rattle.lane_calls.proofs.pick_there.Statement.{statement}
 use Rattle.lane_calls.proofs.pick_there.Tie as tie
@@ -30,7 +30,7 @@ returns : tie.Need-returns
 returns c =
     let a = c .before .before .before .before .before .before .args in
     let r = c .before .before .before .pick-all in
-    rw (c .answer-to .ensures) (picked-is (a .p) (world (a .lane) (a .cells .now)) (progressOf (r .result) (r .last .1 .0)) (r .ensures))
+    rw (c .answer-to .ensures) (picked-is (a .p) (world (a .lane) (a .cells .now)) (progressOf (r .result) (r .last .1 .0)) (ap (λ (q : Rounds). q .progress) (r .ensures)))
 
 pub pick-there-spec : {M : Type 1} → statement M
 pick-there-spec =

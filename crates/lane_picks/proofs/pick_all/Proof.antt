@@ -1,8 +1,6 @@
 -- `lane_picks::pick_all` meets its contract: it is a single round.
 -- Assumes nothing.
 use borrow.Author.Needs.{needs}
-use mathlib.Core.Path.{ap}
-use Rattle.lane.specs.Pick.{Rounds}
 use Rattle.lane_picks.proofs.pick_all.Statement.{statement}
 use Rattle.lane_picks.proofs.pick_all.Tie as tie
 
@@ -13,7 +11,7 @@ same-length : tie.Need-same-length
 same-length c = search needs
 
 returns : tie.Need-returns
-returns c = ap (λ (r : Rounds). r .progress) (c .before .pick-rounds .ensures)
+returns c = c .before .pick-rounds .ensures
 
 pub pick-all-spec : {M : Type 1} → statement M
 pick-all-spec = tie.close (tie.spec pick-rounds-requires same-length returns)

@@ -9,7 +9,7 @@ use borrow.Author.Needs.{needs}
 use borrow.Author.Tests.{ltb-true, ne-eqb}
 use lib.ListN.{length, getD, replicate}
 use Rattle.lane.specs.State.{World, world}
-use Rattle.lane.specs.Pick.{Progress}
+use Rattle.lane.specs.Pick.{Rounds}
 use Rattle.relief.specs.Relief.{told}
 use Rattle.schedule.proofs.Stretches.{one-of}
 use Rattle.listing.specs.Text.{text}
@@ -77,7 +77,7 @@ returns-2 c =
     let s = o .before .before in
     let w : World = world (s .args .lane) (s .args .cells .now) in
     let e = sym (pick-is (s .args .pick) w (o .if1 .left)) in (
-      ap (λ (g : Progress). g .world) (a .pick-all .ensures) ∙ picked-one (s .args .pick) w ∙ ap (λ (d : Printed World). d .after) e,
+      ap (λ (q : Rounds). q .progress .world) (a .pick-all .ensures) ∙ picked-one (s .args .pick) w ∙ ap (λ (d : Printed World). d .after) e,
       sym (add-zero (s .args .at)) ∙ ap (λ (d : Printed World). s .args .at + length (text (d .lines))) e,
       sym (written-none (s .args .at) (s .args .listing .now)) ∙ ap (λ (d : Printed World). written (s .args .at) (text (d .lines)) (s .args .listing .now)) e,
     )

@@ -8,6 +8,7 @@ use borrow.Author.Tests.{eqb-true, not-false}
 use native.Mathlib.Omega.{arith}
 use lib.ListN.{length, length-map}
 use Rattle.lane.specs.State.{world}
+use Rattle.lane.specs.Pick.{Rounds}
 use Rattle.lane.proofs.Shape.{Shaped}
 use Rattle.schedule.specs.Run.{done}
 use Rattle.schedule.proofs.Through.{running}
@@ -51,7 +52,8 @@ stretch-of c = c .before .before .before .before .before .before
 stretched : (c : tie.After-struct-known Inv-loop μ-loop)
     → Partway (c .before .before .before .before .before .before .before .before .before .before .args .picks .now) (c .before .before .before .before .before .before .before .before .before .before .args .lane .network) (world (c .before .before .before .before .before .before .before .before .before .before .args .lane) (c .before .before .before .before .before .before .before .before .before .before .args .cells .now)) (stretch-of c .stretch .result)
     (running (world (c .before .before .before .pick-all .result .lane) (c .before .before .before .pick-all .last .1 .0)) (loop-of c .loop .moved + c .before .before .before .pick-all .result .moved) (loop-of c .loop .enlarged))
-stretched c = after-stretch (loop-of c .loop .inv) (stretch-of c .stretch .ensures) (c .before .before .before .pick-all .ensures)
+stretched c =
+    after-stretch (loop-of c .loop .inv) (stretch-of c .stretch .ensures) (ap (λ (q : Rounds). q .progress) (c .before .before .before .pick-all .ensures))
 
 loop-holds : tie.Need-loop-holds Inv-loop μ-loop
 loop-holds c =
