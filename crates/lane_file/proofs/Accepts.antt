@@ -32,14 +32,14 @@ four-zeros (suc (suc zero)) = refl
 four-zeros (suc (suc (suc zero))) = refl
 four-zeros (suc (suc (suc (suc q)))) = refl
 
-slot-zero : (n : Network) → unusedSlots n ≡ Good → (p q : ℕ) → n .processes ≤ p → p < 16 → getD (slotOf n p) q 0 ≡ 0
+pub slot-zero : (n : Network) → unusedSlots n ≡ Good → (p q : ℕ) → n .processes ≤ p → p < 16 → getD (slotOf n p) q 0 ≡ 0
 unfolding unusedSlots
 slot-zero n g p q a b =
     let z = both-true (eqb (startOf n p) 0) (eqb (countOf n p) 0)
     (each-true (slotZero n) (n .processes) (16 - n .processes) g p a (omega arith)) in
     ap₂ (λ (a b : ℕ). getD (twoBytes a ++ twoBytes b) q 0) (eqb-true (startOf n p) 0 (z .0)) (eqb-true (countOf n p) 0 (z .1)) ∙ four-zeros q
 
-record-zero : (n : Network) → unusedRecords n ≡ Good → (c q : ℕ) → n .channels ≤ c → c < 32 → getD (recordOf n c) q 0 ≡ 0
+pub record-zero : (n : Network) → unusedRecords n ≡ Good → (c q : ℕ) → n .channels ≤ c → c < 32 → getD (recordOf n c) q 0 ≡ 0
 unfolding unusedRecords
 record-zero n g c q a b =
     let z = both-true (eqb (senderOf n c) 0 && eqb (receiverOf n c) 0) (eqb (capacityOf n c) 0)

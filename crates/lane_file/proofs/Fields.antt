@@ -16,8 +16,9 @@ use Rattle.network.specs.declared.Network.{Network}
 use Rattle.network.specs.Rules.{startOf, countOf, senderOf, receiverOf, capacityOf, total, unusedCode}
 use Rattle.network.proofs.Passed.{Passed}
 use Rattle.lane_file.specs.Read.{codePlace, networkOf}
+use Rattle.lane_file.specs.RoundTrip.{Shaped}
 use Rattle.lane_file.proofs.Joined.{same-place}
-use Rattle.lane_file.proofs.Places.{Shaped, blocksOf, Holds}
+use Rattle.lane_file.proofs.Places.{blocksOf, Holds}
 
 -- ---- the fields of the network that is read
 module _ (s : List ℕ) where

@@ -5,4 +5,6 @@ pub mod Verdicts
 pub mod Fields
 pub mod Accepts
 pub mod Held
+pub mod InBytes
 pub mod RoundTrip
+pub mod Witness

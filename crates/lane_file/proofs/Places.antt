@@ -16,16 +16,8 @@ use Rattle.block_check.specs.Crc.{crc}
 use Rattle.network.specs.declared.Network.{Network}
 use Rattle.network.specs.Rules.{total, blocksFor}
 use Rattle.lane_file.specs.File.{headerOf, slotOf, recordOf, firstBlock, codeBlock, blockOf, fileOf}
+use Rattle.lane_file.specs.RoundTrip.{Shaped}
 use Rattle.lane_file.proofs.Joined.{same-place, past, length-joined, joined-at, length-part, part-is}
-
--- the arrays of a network have their lengths, as in every value of the record
-pub record Shaped (n : Network) : Type 0 where
-  pub first : length (n .first) ≡ 16
-  pub count : length (n .count) ≡ 16
-  pub sender : length (n .sender) ≡ 32
-  pub receiver : length (n .receiver) ≡ 32
-  pub capacity : length (n .capacity) ≡ 32
-  pub code : length (n .code) ≡ 4064
 
 -- code blocks
 abbrev pub blocksOf : Network → ℕ
@@ -52,6 +44,37 @@ first-places P a b c e r h = go (decLt r 8) (decLt r 72) (decLt r 200)
     go (no l) (yes m) y = subst P (omega arith) (b ((r - 8) / 4) ((r - 8) % 4) (omega arith) (omega arith))
     go (no l) (no m) (yes o) = subst P (omega arith) (c ((r - 72) / 4) ((r - 72) % 4) (omega arith) (omega arith))
     go (no l) (no m) (no o) = subst P (omega arith) (e (r - 200) (omega arith))
+
+-- The places of a file with so many code blocks: what holds up to byte 509 of block 0, and at the code and the number of each code block, holds up to
+-- byte 509 of each block; and what holds there and at each check holds at every place.
+module _ (blocks : ℕ) (P : ℕ → Type 0) where
+  code-places : ((k r : ℕ) → k < blocks → r < 508 → P (512 * (k + 1) + r)) → ((k q : ℕ) → k < blocks → q < 2 → P (512 * (k + 1) + (508 + q)))
+      → (k r : ℕ) → k < blocks → r < 510 → P (512 * (k + 1) + r)
+  code-places a b k r hk hr = go (decLt r 508)
+    where
+      go : Dec (r < 508) → P (512 * (k + 1) + r)
+      go (yes l) = a k r hk l
+      go (no l) =
+          let e : 508 + (r - 508) ≡ r = omega arith in
+          subst (λ (x : ℕ). P (512 * (k + 1) + x)) e (b k (r - 508) hk (omega arith))
+
+  pub body-places : ((r : ℕ) → r < 510 → P r) → ((k r : ℕ) → k < blocks → r < 508 → P (512 * (k + 1) + r))
+      → ((k q : ℕ) → k < blocks → q < 2 → P (512 * (k + 1) + (508 + q))) → (k r : ℕ) → k < blocks + 1 → r < 510 → P (512 * k + r)
+  body-places a b c zero r hk hr = subst P (omega arith) (a r hr)
+  body-places a b c (suc k) r hk hr = rw (← add-one k) (code-places b c k r (omega arith) hr)
+
+  pub all-places : ((k r : ℕ) → k < blocks + 1 → r < 510 → P (512 * k + r)) → ((k q : ℕ) → k < blocks + 1 → q < 2 → P (512 * k + (510 + q)))
+      → (j : ℕ) → j < 512 * (blocks + 1) → P j
+  all-places a b j h = subst P (omega arith) (at (j / 512) (j % 512) (omega arith) (omega arith))
+    where
+      at : (k r : ℕ) → k < blocks + 1 → r < 512 → P (512 * k + r)
+      at k r hk hr = go (decLt r 510)
+        where
+          go : Dec (r < 510) → P (512 * k + r)
+          go (yes l) = a k r hk l
+          go (no l) =
+              let e : 510 + (r - 510) ≡ r = omega arith in
+              subst (λ (x : ℕ). P (512 * k + x)) e (b k (r - 510) hk (omega arith))
 
 -- ---- block 0
 -- a list of four parts, of 8, 64, 128 and 310 elements

@@ -38,7 +38,8 @@ abbrev isAccepted : Told → Bool
 isAccepted accepted = true
 isAccepted (refused number place) = false
 
-passing : (number : ℕ) (v : Verdict) (next : Told) → unless number v next ≡ accepted → (v ≡ Good) × (next ≡ accepted)
+-- a test that was passed over, and what followed
+pub passing : (number : ℕ) (v : Verdict) (next : Told) → unless number v next ≡ accepted → (v ≡ Good) × (next ≡ accepted)
 passing number Good next e = (refl, e)
 passing number (Bad place) next e = absurd (subst (λ (t : Told). T (isAccepted t)) (sym e) tt)
 

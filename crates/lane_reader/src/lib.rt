@@ -7,7 +7,7 @@ use network::Network;
 ghost use mathlib.Core.Path.{_≡_};
 ghost use Prim.Native.Nat.{_+_, _-_, _*_, _%_, _≤_, _<_};
 ghost use lib.ListN.{length, getD};
-ghost use Rattle.base.specs.Tests.{inTurn};
+ghost use Rattle.base.specs.Tests.{need, inTurn};
 ghost use Rattle.base.specs.Lists.{table, wordAt};
 ghost use Rattle.network.specs.Rules.{total, records, instructions};
 ghost use Rattle.lane_file.specs.Read.{blocks, codePlace, networkOf, lengthRight, checkRight, checks, header, slotsIn, unusedFrom, codeRest, restIn, accepted, told, unless, noNetwork, readOf, resultOf};
@@ -42,7 +42,7 @@ fn check_right(s: &[u8], k: usize) -> bool
     let at = 512 * k;
     let end = at + 510;
     let check = block_check::check(&s[at..end]);
-    word(s, end) == check
+    word(s, at + 510) == check
 }
 
 // The first block whose check is wrong.
@@ -190,13 +190,14 @@ fn slots_in(s: &[u8], net: Network) -> Verdict
     let Verdict::Good = v else {
         return v;
     };
+    let place = 16;
     let instructions = network::total(&net.first, &net.count, net.processes);
     if 1016 < instructions {
-        return Verdict::Bad(16);
+        return Verdict::Bad(place);
     }
     let k = s[5] as usize;
     if k != (instructions + 126) / 127 {
-        return Verdict::Bad(16);
+        return Verdict::Bad(place);
     }
     Verdict::Good
 }
@@ -321,20 +322,31 @@ fn tested(s: &[u8], net: Network) -> Answer
     Answer::Accepted
 }
 
+// The tests 1 to 3, before a network is read.
+fn opened(s: &[u8]) -> Answer
+    ensures { λ r. ⌜ told r ≡ unless 1 (need (lengthRight (length (now (s .entry)))) 0) (unless 2 (checks (now (s .entry))) (unless 3 (header (now (s .entry))) accepted)) ⌝ }
+{
+    if !length_right(s.len()) {
+        return Answer::Refused(Refusal::Length, 0);
+    }
+    let blocks = checks(s);
+    if let Verdict::Bad(place) = blocks {
+        return Answer::Refused(Refusal::Check, place);
+    }
+    let bytes = header(s);
+    if let Verdict::Bad(place) = bytes {
+        return Answer::Refused(Refusal::Header, place);
+    }
+    Answer::Accepted
+}
+
 // What a file is: accepted, with its network, or the first refusal and its place.
 pub fn read(s: &[u8]) -> Reading
     ensures { λ r. ⌜ resultOf r ≡ readOf (now (s .entry)) ⌝ }
 {
-    if !length_right(s.len()) {
-        return refused(Refusal::Length, 0);
-    }
-    let blocks = checks(s);
-    if let Verdict::Bad(place) = blocks {
-        return refused(Refusal::Check, place);
-    }
-    let bytes = header(s);
-    if let Verdict::Bad(place) = bytes {
-        return refused(Refusal::Header, place);
+    let first = opened(s);
+    if let Answer::Refused(r, place) = first {
+        return refused(r, place);
     }
     let net = network_of(s);
     let answer = tested(s, net);

@@ -4,6 +4,8 @@ use mathlib.Core.Path.{_≡_}
 use Prim.Native.Nat.{_+_, _-_, _*_}
 use native.Mathlib.Omega.{arith}
 use borrow.Author.Needs.{needs}
+use lib.ListN.{take, drop}
+use Rattle.block_check.specs.Crc.{crc}
 use Rattle.lane_reader.proofs.check_right.Statement.{statement}
 use Rattle.lane_reader.proofs.check_right.Tie as tie
 
@@ -25,14 +27,19 @@ part-check-end c = search needs
 check-requires : tie.Need-check-requires
 check-requires c κs = search needs
 
+add-word : tie.Need-add-word
+add-word c = search needs
+
 word-requires : tie.Need-word-requires
 word-requires c κs = search needs
 
 returns : tie.Need-returns
 returns c =
+    let s = c .before .before .before .before .args .s .now in
     let k = c .before .before .before .before .args .k in
-    let e : (512 * k + 510) - 512 * k ≡ 510 = omega arith in
-    rw (c .word .ensures, c .before .check .ensures, e)
+    let checked : c .before .check .result ≡ crc (take (512 * k + 510 - 512 * k) (drop (512 * k) s)) = c .before .check .ensures in
+    let e : 512 * k + 510 - 512 * k ≡ 510 = omega arith in
+    rw (c .word .ensures, checked, e)
 
 pub check-right-spec : {M : Type 1} → statement M
 check-right-spec =
@@ -44,5 +51,6 @@ check-right-spec =
     part-check-start
     part-check-end
     check-requires
+    add-word
     word-requires
     returns)

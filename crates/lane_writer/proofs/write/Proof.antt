@@ -4,19 +4,37 @@ use mathlib.Core.Path.{_≡_, refl, sym, _∙_}
 use mathlib.Core.Bool.{true, false}
 use Prim.Native.Nat.{_≤_, _<_}
 use native.Mathlib.Omega.{arith}
-use borrow.Author.Needs.{needs}
+use borrow.Author.Needs.{needs, elem-fits-field}
+use mir.Syntax.{w8}
 use borrow.Author.Tests.{lt-ltb, le-ltb, not-true, not-false}
-use lib.ListN.{length}
+use lib.ListN.{length, length-map}
 use Rattle.network.specs.declared.Network.{Network}
 use Rattle.network.specs.Rules.{total, passes}
 use Rattle.network.proofs.Passed.{Passed, passed}
 use Rattle.lane_file.specs.File.{sizeOf}
+use Rattle.lane_file.specs.Read.{Bytes}
+use Rattle.lane_file.specs.RoundTrip.{Shaped}
 use Rattle.lane_file.specs.Write.{writeOf}
 use Rattle.lane_writer.proofs.write.Statement.{statement}
 use Rattle.lane_writer.proofs.write.Tie as tie
 
 abbrev net : tie.After-passes → Network
 net c = c .before .before .args .t1
+
+-- what the round trip of lane_file asks of a network holds of each that is handed in, by the types of its arrays
+pub handed-shaped : (c : tie.Start) → Shaped (c .args .t1)
+handed-shaped c =
+    record {
+      first = simp length-map at (c .good .0 .1 .1 .1 .1 .0 .1 .0 .1);
+      count = simp length-map at (c .good .0 .1 .1 .1 .1 .1 .0 .1 .0 .1);
+      sender = simp length-map at (c .good .0 .1 .1 .1 .1 .1 .1 .0 .1 .0 .1);
+      receiver = simp length-map at (c .good .0 .1 .1 .1 .1 .1 .1 .1 .0 .1 .0 .1);
+      capacity = simp length-map at (c .good .0 .1 .1 .1 .1 .1 .1 .1 .1 .0 .1 .0 .1);
+      code = simp length-map at (c .good .0 .1 .1 .1 .1 .1 .1 .1 .1 .1 .0 .1 .0 .1);
+    }
+
+pub handed-bytes : (c : tie.Start) → Bytes (c .args .t1 .code)
+handed-bytes c k = elem-fits-field w8 w8 (c .args .t1 .code) _ k (c .good .0 .1 .1 .1 .1 .1 .1 .1 .1 .1 .0 .1 .1) tt .fits
 
 -- where the code goes on the network passes the rules
 holds : (c : tie.Else1) → passes (net (c .before)) ≡ true
