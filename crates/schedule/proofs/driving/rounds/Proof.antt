@@ -8,6 +8,8 @@ use borrow.Author.Tests.{eqb-true, not-false}
 use native.Mathlib.Nat.{mul-le-mul-left}
 use native.Mathlib.Omega.{arith}
 use lib.ListN.{length-map, length-take}
+use mir.Syntax.{w64}
+use mir.Val.{Fits}
 use Rattle.network.proofs.Passed.{Passed, passed}
 use Rattle.lane.specs.State.{world}
 use Rattle.lane.proofs.Shape.{Shaped}
@@ -40,7 +42,7 @@ rules : (c : tie.Start Inv-loop μ-loop) → Passed (c .args .lane .network)
 rules c = passed _ (sound-says (c .args .lane) (ready c .sound) .passed)
 
 -- the picks of rounds of which some are left are no more than those of all
-picks-fit : (c : tie.Start Inv-loop μ-loop) (left : ℕ) → c .args .processes * (c .args .most - left) ≤ 18446744073709551615
+picks-fit : (c : tie.Start Inv-loop μ-loop) (left : ℕ) → Fits w64 (c .args .processes * (c .args .most - left))
 picks-fit c left =
     let h : c .args .most - left ≤ c .args .most = omega arith in
     omega (arith, mul-le-mul-left (c .args .processes) h, c .pre .3)
@@ -96,9 +98,7 @@ sub-driven c =
     omega (arith, fewer d, loop-of d .loop .inv .within)
 
 mul-driven : tie.Need-mul-driven Inv-loop μ-loop
-mul-driven c =
-    let d = c .before .before .before in
-    omega (arith, picks-fit (loop-of d .before) (picks-of d .pick-rounds .result .left))
+mul-driven c = picks-fit (loop-of (c .before .before .before) .before) _
 
 driven-requires : tie.Need-driven-requires Inv-loop μ-loop
 driven-requires c κs = search needs
@@ -130,7 +130,7 @@ sub-driven-2 : tie.Need-sub-driven-2 Inv-loop μ-loop
 sub-driven-2 c = c .before .loop .inv .within
 
 mul-driven-2 : tie.Need-mul-driven-2 Inv-loop μ-loop
-mul-driven-2 c = omega (arith, picks-fit (c .before .before) (c .before .loop .left))
+mul-driven-2 c = picks-fit (c .before .before) _
 
 driven-requires-2 : tie.Need-driven-requires-2 Inv-loop μ-loop
 driven-requires-2 c κs = search needs
