@@ -89,6 +89,10 @@ module _ (f : ℕ → ℕ) where
       go (inl h) = inl (h .0, λ j a b e. h .1 j a (omega arith) e)
       go (inr h) = inr (record { some = h .low; bounded = omega (arith, h .high); closes = h .closes; least = h .least })
 
+  -- at most as many processes as there are
+  pub length-short : (P p : ℕ) → ringLength f P p ≤ P
+  length-short P p = ⊎-elim (λ h. omega (arith, h .0)) (λ r. r .bounded) (length-says P p)
+
   pub ring-length : (P p k : ℕ) → RingOf f P p k → ringLength f P p ≡ k
   ring-length P p k r =
       ⊎-elim (λ h. absurd (h .1 k (r .some) (r .bounded) (r .closes))) (λ s. ring-one P p (ringLength f P p) k s r) (length-says P p)
@@ -140,15 +144,15 @@ module _ (f : ℕ → ℕ) where
                 (ap (λ (n : ℕ). iter f n p) (omega (arith, t .2, t .3)) ∙ q ∙ m .2))
 
     -- p is on a ring exactly where it has a length
-    pub on-ring : (p : ℕ) → p < P → OnRing f p → RingOf f P p (ringLength f P p)
-    on-ring p h o =
-        let r = within p (o .0) h (o .1) (o .2) in
+    pub on-ring : (p : ℕ) → OnRing f P p → RingOf f P p (ringLength f P p)
+    on-ring p o =
+        let r = within p (o .1) (o .0) (o .2) (o .3) in
         subst (RingOf f P p) (sym (ring-length P p (r .0) (r .1))) (r .1)
 
-    pub on-ring-length : (p : ℕ) → p < P → OnRing f p ↔ (ringLength f P p ≡ 0 → ⊥)
+    pub on-ring-length : (p : ℕ) → p < P → OnRing f P p ↔ (ringLength f P p ≡ 0 → ⊥)
     on-ring-length p h = (
-      (λ o z. let r = on-ring p h o in omega (arith, r .some)),
-      (λ n. ⊎-elim (λ z. absurd (n (z .0))) (λ r. (ringLength f P p, r .some, r .closes)) (length-says P p)),
+      (λ o z. let r = on-ring p o in omega (arith, r .some)),
+      (λ n. ⊎-elim (λ z. absurd (n (z .0))) (λ r. (h, ringLength f P p, r .some, r .closes)) (length-says P p)),
     )
 
 -- ---- the members of a ring

@@ -2,7 +2,7 @@
 -- channel, is exactly what document 01 says, with no search in it.
 -- Assumes nothing.
 use mathlib.Core.Path.{_≡_, refl, sym, ap, _∙_, subst}
-use mathlib.Core.Logic.{_↔_}
+use mathlib.Core.Logic.{_↔_, inl, inr}
 use mathlib.Core.Bool.{Bool, true, false, cond, not}
 use mathlib.Core.List.{List, [], _++_}
 use Prim.Native.Nat.{ℕ, _%_, _≤_, _<_}
@@ -11,6 +11,7 @@ use native.Mathlib.Omega.{arith}
 use borrow.Author.Tests.{lt-ltb, le-ltb, ltb-true, ltb-false, eq-eqb}
 use lib.Dec.{ltb}
 use lib.ListN.{length, drop}
+use Rattle.network.specs.Rules.{outside}
 use Rattle.network.proofs.Passed.{passed}
 use Rattle.process.specs.declared.Outcome.{Outcome}
 use Rattle.process.specs.declared.Outcome.the-variants.{Moved, Sent, Halted, WaitEmpty, WaitFull, Ended}
@@ -23,10 +24,10 @@ use Rattle.lane.proofs.SoundLaws.{Sound, sound-says}
 use Rattle.relief.specs.Waits.{Wait, free, forMessage, forRoom, waitIn, waitOf, roomIn, pointing, fullWait, waitsAt}
 use Rattle.relief.specs.Rings.{iter, OnRing, Found, noRing, ceiling, found}
 use Rattle.relief.specs.Taken.{OnFullRing, Taken}
-use Rattle.relief.specs.Relief.{Told, enlarged, refused, relief, foundIn, grown, settled, relieveOf}
+use Rattle.relief.specs.Relief.{Told, enlarged, refused, NoOther, relief, foundIn, grown, settled, relieveOf}
 use Rattle.relief.proofs.Walk.{Stays}
 use Rattle.relief.proofs.WaitLaws.{wait-any}
-use Rattle.relief.proofs.Rule.{found-exactly, none-exactly, ceiling-exactly}
+use Rattle.relief.proofs.Rule.{taken-short, found-exactly, none-exactly, ceiling-exactly}
 
 -- ---- a sound lane is as the laws of rings want it
 module _ (l : Lane) (s : Sound l) where
@@ -34,6 +35,10 @@ module _ (l : Lane) (s : Sound l) where
   pub pointing-stays : Stays (pointing l) (l .network .processes)
   unfolding pointing
   pointing-stays p h = rw (le-ltb p (l .network .processes) h) (omega (arith, passed (l .network) (s .passed) .processes-high))
+
+  -- and what is no process is on no ring: outside points to outside
+  pub no-ring-outside : OnRing (pointing l) (l .network .processes) outside → ⊥
+  no-ring-outside o = omega (arith, o .0, passed (l .network) (s .passed) .processes-high)
 
   room-high : (c : ℕ) → c < 32 → channelOf l c .capacity ≤ 256
   room-high c h = go (decLt c (l .network .channels))
@@ -60,14 +65,14 @@ module _ (l : Lane) (e : soundOf l ≡ true) where
   pub lane-found : (ring : List ℕ) (c : ℕ) → (foundIn l ≡ found ring c) ↔ Taken (pointing l) (fullWait l) (waitsAt l) (l .network .processes) ring c
   lane-found = found-exactly (pointing l) (fullWait l) (l .network .processes) (pointing-stays l (sound-says l e)) (waitsAt l)
 
-  pub lane-none : (foundIn l ≡ noRing) ↔ ((p : ℕ) → p < l .network .processes → OnFullRing (pointing l) (fullWait l) p → ⊥)
+  pub lane-none : (foundIn l ≡ noRing) ↔ ((p : ℕ) → OnFullRing (pointing l) (fullWait l) (l .network .processes) p → ⊥)
   lane-none =
       none-exactly (pointing l) (fullWait l) (l .network .processes) (pointing-stays l (sound-says l e)) (waitsAt l) (full-high l (sound-says l e))
 
   pub lane-ceiling :
       (foundIn l ≡ ceiling)
-      ↔ (((p : ℕ) × (p < l .network .processes) × OnFullRing (pointing l) (fullWait l) p)
-      × ((p : ℕ) → p < l .network .processes → OnRing (pointing l) p → (k : ℕ) → (fullWait l (iter (pointing l) k p) ≡ 0 → ⊥) → fullWait l (iter (pointing l) k p) ≡ 256))
+      ↔ (((p : ℕ) × OnFullRing (pointing l) (fullWait l) (l .network .processes) p)
+      × ((p : ℕ) → OnRing (pointing l) (l .network .processes) p → (k : ℕ) → (fullWait l (iter (pointing l) k p) ≡ 0 → ⊥) → fullWait l (iter (pointing l) k p) ≡ 256))
   lane-ceiling =
       ceiling-exactly (pointing l) (fullWait l) (l .network .processes) (pointing-stays l (sound-says l e)) (waitsAt l) (full-high l (sound-says l e))
 
@@ -122,7 +127,7 @@ module _ (l : Lane) (buffer : List ℕ) where
     ways = subst (Way (foundIn l)) (sym (answer-is (foundIn l) refl)) (way (foundIn l))
 
     -- 13: "no ring with a full wait"
-    pub answers-13 : (relieveOf l buffer .answer ≡ refused 13) ↔ ((p : ℕ) → p < l .network .processes → OnFullRing (pointing l) (fullWait l) p → ⊥)
+    pub answers-13 : (relieveOf l buffer .answer ≡ refused 13) ↔ ((p : ℕ) → OnFullRing (pointing l) (fullWait l) (l .network .processes) p → ⊥)
     answers-13 = ((λ e. lane-none l s .0 (go (foundIn l) _ ways e)), λ n. answer-is noRing (lane-none l s .1 n))
       where
         go : (o : Found) (a : Told) → Way o a → a ≡ refused 13 → o ≡ noRing
@@ -134,8 +139,8 @@ module _ (l : Lane) (buffer : List ℕ) where
     -- 14: "such rings, all those channels at 256"
     pub answers-14 :
         (relieveOf l buffer .answer ≡ refused 14)
-        ↔ (((p : ℕ) × (p < l .network .processes) × OnFullRing (pointing l) (fullWait l) p)
-        × ((p : ℕ) → p < l .network .processes → OnRing (pointing l) p → (k : ℕ) → (fullWait l (iter (pointing l) k p) ≡ 0 → ⊥) → fullWait l (iter (pointing l) k p) ≡ 256))
+        ↔ (((p : ℕ) × OnFullRing (pointing l) (fullWait l) (l .network .processes) p)
+        × ((p : ℕ) → OnRing (pointing l) (l .network .processes) p → (k : ℕ) → (fullWait l (iter (pointing l) k p) ≡ 0 → ⊥) → fullWait l (iter (pointing l) k p) ≡ 256))
     answers-14 = ((λ e. lane-ceiling l s .0 (go (foundIn l) _ ways e)), λ n. answer-is ceiling (lane-ceiling l s .1 n))
       where
         go : (o : Found) (a : Told) → Way o a → a ≡ refused 14 → o ≡ ceiling
@@ -176,6 +181,17 @@ module _ (l : Lane) (buffer : List ℕ) where
 
         back : (ring : List ℕ) → Taken (pointing l) (fullWait l) (waitsAt l) (l .network .processes) ring c → length ring ≡ n → n ≤ length buffer → relieveOf l buffer .answer ≡ enlarged n c
         back ring t e h = answer-is (found ring c) (lane-found l s ring c .1 t) ∙ rw (le-ltb (length buffer) (length ring) (omega arith)) (ap (λ (k : ℕ). enlarged k c) e)
+
+    -- with room for all processes 15 does not come, nor 16
+    pub relief-answers : l .network .processes ≤ length buffer → NoOther (relieveOf l buffer .answer)
+    relief-answers room = go (foundIn l) _ refl ways
+      where
+        go : (o : Found) (a : Told) → foundIn l ≡ o → Way o a → NoOther a
+        go o a e none = inl refl
+        go o a e high = inr refl
+        go o a e (short ring c h) =
+            absurd (omega (arith, taken-short (pointing l) (fullWait l) (l .network .processes) (pointing-stays l (sound-says l s)) (waitsAt l) ring c (lane-found l s ring c .0 e)))
+        go o a e (grew ring c h) = tt
 
 -- ---- a process waits for what a pick of it, with whatever cells, would answer
 -- the wait that an answer tells

@@ -19,7 +19,7 @@ use Rattle.relief.specs.Taken.{OnFullRing, Relievable, IsRing, Grows, Ta
 use Rattle.relief.proofs.Least.{Below, below-says, says-below, some-at, at-some, least-each, least-in, least-below}
 use Rattle.relief.proofs.First.{first-holds, first-before, first-is}
 use Rattle.relief.proofs.Walk.{length-chain, Stays}
-use Rattle.relief.proofs.Circles.{RingOf, length-says, ring-length, on-ring, within, chain-at, ring-distinct, ring-reach, ring-back, ring-around}
+use Rattle.relief.proofs.Circles.{RingOf, length-says, length-short, ring-length, on, on-ring, within, chain-at, ring-distinct, ring-reach, ring-back, ring-around}
 
 -- ---- the list of a ring
 module _ (f : ℕ → ℕ) where
@@ -73,8 +73,8 @@ module _ (f : ℕ → ℕ) where
           ∙ ap (λ (k : ℕ). chain f k p) (sym e)
 
 -- the members of the ring of p are distinct, each is followed by the one it points to, and the last points to p
-pub ring-members : (f : ℕ → ℕ) (P : ℕ) → Stays f P → (p : ℕ) → p < P → OnRing f p → IsRing f p (ringOf f P p)
-ring-members f P stays p h o = ring-is f P p (ringLength f P p) (on-ring f P stays p h o)
+pub ring-members : (f : ℕ → ℕ) (P : ℕ) → Stays f P → (p : ℕ) → OnRing f P p → IsRing f p (ringOf f P p)
+ring-members f P stays p o = ring-is f P p (ringLength f P p) (on-ring f P stays p o)
 
 -- ---- who is on a ring with a full wait below a limit
 module _ (f full : ℕ → ℕ) (P : ℕ) (stays : Stays f P) where
@@ -82,33 +82,33 @@ module _ (f full : ℕ → ℕ) (P : ℕ) (stays : Stays f P) where
   unfolding chain
   ring-from limit p e = ⊎-elim (λ h. absurd (false≢true (sym (ap (λ (k : ℕ). someBelow full limit (chain f k p)) (h .0)) ∙ e))) (λ r. r) (length-says f P p)
 
-  pub relievable : (limit p : ℕ) → onRingBelow f full P limit p ≡ true → Relievable f full limit p
-  relievable limit p e =
+  pub relievable : (limit p : ℕ) → p < P → onRingBelow f full P limit p ≡ true → Relievable f full P limit p
+  relievable limit p h e =
       let r = ring-from limit p e in
       let s = some-at full limit (ringOf f P p) e in
       let at = chain-at f (ringLength f P p) p (s .0) (omega (arith, s .1, length-chain f (ringLength f P p) p)) in
       let b = below-says full limit (iter f (s .0) p) (ap (Below full limit) (sym at) ∙ s .2) in
-      record { ring = (ringLength f P p, r .some, r .closes); steps = s .0; waits = b .0; below = b .1 }
+      record { ring = (h, ringLength f P p, r .some, r .closes); steps = s .0; waits = b .0; below = b .1 }
 
-  pub found-ring : (limit p : ℕ) → p < P → Relievable f full limit p → onRingBelow f full P limit p ≡ true
-  found-ring limit p h s =
+  pub found-ring : (limit p : ℕ) → Relievable f full P limit p → onRingBelow f full P limit p ≡ true
+  found-ring limit p s =
       let k : ℕ = ringLength f P p in
-      let r = on-ring f P stays p h (s .ring) in
+      let r = on-ring f P stays p (s .ring) in
       let i = ring-reach f P p k r (s .steps) in
       let e : iter f (s .steps) p ≡ getD (chain f k p) (i .0) 0 = i .2 ∙ sym (chain-at f k p (i .0) (i .1)) in
       at-some full limit (chain f k p) (i .0) (omega (arith, i .1, length-chain f k p))
       (ap (Below full limit) (sym e) ∙ says-below full limit (iter f (s .steps) p) (s .waits) (s .below))
 
   -- each process on such a ring is
-  pub relievable-on : (limit p j : ℕ) → p < P → Relievable f full limit p → Relievable f full limit (iter f j p)
-  relievable-on limit p j h s =
+  pub relievable-on : (limit p j : ℕ) → Relievable f full P limit p → Relievable f full P limit (iter f j p)
+  relievable-on limit p j s =
       let k : ℕ = ringLength f P p in
-      let r = on-ring f P stays p h (s .ring) in
+      let r = on-ring f P stays p (s .ring) in
       let i = ring-reach f P p k r j in
       let m = ring-around f P p k r (i .0) (s .steps) (omega (arith, i .1)) in
       let e : iter f (s .steps) p ≡ iter f (m .0) (iter f j p) = sym (m .1) ∙ ap (iter f (m .0)) (sym (i .2)) in
       record {
-        ring = (k, r .some, ring-back f P p k r j);
+        ring = (rw (i .2) (on f P stays p (i .0) k (omega (arith, i .1)) (omega (arith, r .closes, s .ring .0))), k, r .some, ring-back f P p k r j);
         steps = m .0;
         waits = λ z. s .waits (ap full e ∙ z);
         below = omega (arith, s .below, ap full e);
@@ -143,7 +143,6 @@ module _ (f full : ℕ → ℕ) (P : ℕ) (stays : Stays f P) where
     taken p h e before =
         record {
           process = p;
-          there = h;
           relievable = s;
           first = first;
           listed = ring-is f P p (ringLength f P p) r;
@@ -152,8 +151,8 @@ module _ (f full : ℕ → ℕ) (P : ℕ) (stays : Stays f P) where
               (grows-least p (chain f (ringLength f P p - 1) (f p)) (least-below full 256 chan (p ∷ chain f (ringLength f P p - 1) (f p)) p (ap (someBelow full 256) (sym opened) ∙ e) .0));
         }
       where
-        s : Relievable f full 256 p
-        s = relievable 256 p e
+        s : Relievable f full P 256 p
+        s = relievable 256 p h e
 
         r : RingOf f P p (ringLength f P p)
         r = ring-from 256 p e
@@ -161,12 +160,17 @@ module _ (f full : ℕ → ℕ) (P : ℕ) (stays : Stays f P) where
         opened : ringOf f P p ≡ p ∷ chain f (ringLength f P p - 1) (f p)
         opened = ap (λ (k : ℕ). chain f k p) (let q : ringLength f P p ≡ suc (ringLength f P p - 1) = omega (arith, r .some) in q)
 
-        first : (q : ℕ) → q < p → Relievable f full 256 q → ⊥
-        first q a t = true≢false (sym (found-ring 256 q (omega arith) t) ∙ before q a)
+        first : (q : ℕ) → q < p → Relievable f full P 256 q → ⊥
+        first q a t = true≢false (sym (found-ring 256 q t) ∙ before q a)
 
         low : (i : ℕ) → i < ringLength f P p → Dec (getD (ringOf f P p) i 0 < p) → p ≤ getD (ringOf f P p) i 0
-        low i a (yes d) = absurd (first (getD (ringOf f P p) i 0) d (subst (Relievable f full 256) (sym (chain-at f (ringLength f P p) p i a)) (relievable-on 256 p i h s)))
+        low i a (yes d) = absurd (first (getD (ringOf f P p) i 0) d (subst (Relievable f full P 256) (sym (chain-at f (ringLength f P p) p i a)) (relievable-on 256 p i s)))
         low i a (no d) = omega arith
+
+    -- it has at most as many processes as there are
+    pub taken-short : (ring : List ℕ) (c : ℕ) → Taken f full chan P ring c → length ring ≤ P
+    taken-short ring c t =
+        rw (ring-only f (t .process) ring (t .listed) P stays (t .relievable .ring .0), length-chain f (ringLength f P (t .process)) (t .process)) (length-short f P (t .process))
 
     -- one channel grows
     grows-one : (ring : List ℕ) (c d : ℕ) → Grows full chan ring c → Grows full chan ring d → c ≡ d
@@ -217,16 +221,16 @@ module _ (f full : ℕ → ℕ) (P : ℕ) (stays : Stays f P) where
         go false false a b = inr (inr (ltb-false low-first P a, ltb-false any-first P b, search-is false false a b))
 
     -- no process before the first is on such a ring
-    not-before : (limit q : ℕ) → q < P → q < firstFrom (onRingBelow f full P limit) 0 P → Relievable f full limit q → ⊥
-    not-before limit q h a t =
-        true≢false (sym (found-ring limit q h t) ∙ first-before (onRingBelow f full P limit) P 0 q (omega arith) a)
+    not-before : (limit q : ℕ) → q < firstFrom (onRingBelow f full P limit) 0 P → Relievable f full P limit q → ⊥
+    not-before limit q a t =
+        true≢false (sym (found-ring limit q t) ∙ first-before (onRingBelow f full P limit) P 0 q (omega arith) a)
 
     -- the first is
-    is-first : (limit : ℕ) → firstFrom (onRingBelow f full P limit) 0 P < P → Relievable f full limit (firstFrom (onRingBelow f full P limit) 0 P)
-    is-first limit h = relievable limit (firstFrom (onRingBelow f full P limit) 0 P) (first-holds (onRingBelow f full P limit) P 0 (omega arith))
+    is-first : (limit : ℕ) → firstFrom (onRingBelow f full P limit) 0 P < P → Relievable f full P limit (firstFrom (onRingBelow f full P limit) 0 P)
+    is-first limit h = relievable limit (firstFrom (onRingBelow f full P limit) 0 P) h (first-holds (onRingBelow f full P limit) P 0 (omega arith))
 
-    no-ring : (limit q : ℕ) → (Relievable f full limit q → ⊥) → onRingBelow f full P limit q ≡ false
-    no-ring limit q n = is-false (onRingBelow f full P limit q) (λ e. n (relievable limit q e))
+    no-ring : (limit q : ℕ) → q < P → (Relievable f full P limit q → ⊥) → onRingBelow f full P limit q ≡ false
+    no-ring limit q h n = is-false (onRingBelow f full P limit q) (λ e. n (relievable limit q h e))
 
     -- "Among rings with a full wait on a channel below 256, the one with the lowest process number is taken; in it .."
     pub found-exactly : (ring : List ℕ) (c : ℕ) → (search f full chan P ≡ found ring c) ↔ Taken f full chan P ring c
@@ -245,61 +249,62 @@ module _ (f full : ℕ → ℕ) (P : ℕ) (stays : Stays f P) where
         finds : Taken f full chan P ring c → search f full chan P ≡ found ring c
         finds t =
             let p : ℕ = t .process in
-            let on-p = found-ring 256 p (t .there) (t .relievable) in
-            let before : (q : ℕ) → q < p → onRingBelow f full P 256 q ≡ false = λ q a. no-ring 256 q (t .first q a) in
-            let at : low-first ≡ p = first-is (onRingBelow f full P 256) P 0 p (omega arith) (omega (arith, t .there)) on-p (λ q l a. before q a) in
-            let r : ring ≡ ringOf f P p = ring-only f p ring (t .listed) P stays (t .there) in
-            let k = taken p (t .there) on-p before in
+            let there : p < P = t .relievable .ring .0 in
+            let on-p = found-ring 256 p (t .relievable) in
+            let before : (q : ℕ) → q < p → onRingBelow f full P 256 q ≡ false = λ q a. no-ring 256 q (omega arith) (t .first q a) in
+            let at : low-first ≡ p = first-is (onRingBelow f full P 256) P 0 p (omega arith) (omega arith) on-p (λ q l a. before q a) in
+            let r : ring ≡ ringOf f P p = ring-only f p ring (t .listed) P stays there in
+            let k = taken p there on-p before in
             let g : chan (least full chan p (ringOf f P p)) ≡ c = grows-one (ringOf f P p) _ c (k .grows) (subst (λ (xs : List ℕ). Grows full chan xs c) r (t .grows)) in
-            search-is true (ltb any-first P) (lt-ltb low-first P (omega (arith, t .there))) refl
+            search-is true (ltb any-first P) (lt-ltb low-first P (omega arith)) refl
             ∙ rw (at, g, ← r)
 
     -- ---- a capacity is at most 256
     module _ (high : (q : ℕ) → full q ≤ 256) where
-      any-ring : (p : ℕ) → OnFullRing f full p → Relievable f full 257 p
+      any-ring : (p : ℕ) → OnFullRing f full P p → Relievable f full P 257 p
       any-ring p s = record { ring = s .ring; steps = s .steps; waits = s .waits; below = omega (arith, high (iter f (s .steps) p)) }
 
-      ring-any : (limit p : ℕ) → Relievable f full limit p → OnFullRing f full p
+      ring-any : (limit p : ℕ) → Relievable f full P limit p → OnFullRing f full P p
       ring-any limit p s = record { ring = s .ring; steps = s .steps; waits = s .waits }
 
       -- 13: "no ring with a full wait"
-      pub none-exactly : (search f full chan P ≡ noRing) ↔ ((p : ℕ) → p < P → OnFullRing f full p → ⊥)
+      pub none-exactly : (search f full chan P ≡ noRing) ↔ ((p : ℕ) → OnFullRing f full P p → ⊥)
       unfolding Low High None
       none-exactly = ((λ e. says e answers), λ n. finds n answers)
         where
-          says : search f full chan P ≡ noRing → _⊎_ Low (High ⊎ None) → (p : ℕ) → p < P → OnFullRing f full p → ⊥
+          says : search f full chan P ≡ noRing → _⊎_ Low (High ⊎ None) → (p : ℕ) → OnFullRing f full P p → ⊥
           says e (inl h) = absurd (let z : 2 ≡ 0 = ap kind (sym (h .1) ∙ e) in omega arith)
           says e (inr (inl h)) = absurd (let z : 1 ≡ 0 = ap kind (sym (h .2) ∙ e) in omega arith)
-          says e (inr (inr h)) = λ p a s. not-before 257 p a (omega (arith, h .1)) (any-ring p s)
+          says e (inr (inr h)) = λ p s. not-before 257 p (omega (arith, h .1, s .ring .0)) (any-ring p s)
 
-          finds : ((p : ℕ) → p < P → OnFullRing f full p → ⊥) → _⊎_ Low (High ⊎ None) → search f full chan P ≡ noRing
-          finds n (inl h) = absurd (n low-first (h .0) (ring-any 256 low-first (is-first 256 (h .0))))
-          finds n (inr (inl h)) = absurd (n any-first (h .1) (ring-any 257 any-first (is-first 257 (h .1))))
+          finds : ((p : ℕ) → OnFullRing f full P p → ⊥) → _⊎_ Low (High ⊎ None) → search f full chan P ≡ noRing
+          finds n (inl h) = absurd (n low-first (ring-any 256 low-first (is-first 256 (h .0))))
+          finds n (inr (inl h)) = absurd (n any-first (ring-any 257 any-first (is-first 257 (h .1))))
           finds n (inr (inr h)) = h .2
 
       -- 14: "such rings, all those channels at 256"
       pub ceiling-exactly :
           (search f full chan P ≡ ceiling)
-          ↔ (((p : ℕ) × (p < P) × OnFullRing f full p) × ((p : ℕ) → p < P → OnRing f p → (k : ℕ) → (full (iter f k p) ≡ 0 → ⊥) → full (iter f k p) ≡ 256))
+          ↔ (((p : ℕ) × OnFullRing f full P p) × ((p : ℕ) → OnRing f P p → (k : ℕ) → (full (iter f k p) ≡ 0 → ⊥) → full (iter f k p) ≡ 256))
       unfolding Low High None
       ceiling-exactly = ((λ e. says e answers), λ n. finds n answers)
         where
-          full-up : P ≤ low-first → (p : ℕ) → p < P → OnRing f p → (k : ℕ) → (full (iter f k p) ≡ 0 → ⊥) → Dec (full (iter f k p) < 256) → full (iter f k p) ≡ 256
-          full-up h p a o k n (yes d) = absurd (not-before 256 p a (omega arith) (record { ring = o; steps = k; waits = n; below = d }))
-          full-up h p a o k n (no d) = omega (arith, high (iter f k p))
+          full-up : P ≤ low-first → (p : ℕ) → OnRing f P p → (k : ℕ) → (full (iter f k p) ≡ 0 → ⊥) → Dec (full (iter f k p) < 256) → full (iter f k p) ≡ 256
+          full-up h p o k n (yes d) = absurd (not-before 256 p (omega (arith, o .0)) (record { ring = o; steps = k; waits = n; below = d }))
+          full-up h p o k n (no d) = omega (arith, high (iter f k p))
 
           says : search f full chan P ≡ ceiling → _⊎_ Low (High ⊎ None)
-              → ((p : ℕ) × (p < P) × OnFullRing f full p) × ((p : ℕ) → p < P → OnRing f p → (k : ℕ) → (full (iter f k p) ≡ 0 → ⊥) → full (iter f k p) ≡ 256)
+              → ((p : ℕ) × OnFullRing f full P p) × ((p : ℕ) → OnRing f P p → (k : ℕ) → (full (iter f k p) ≡ 0 → ⊥) → full (iter f k p) ≡ 256)
           says e (inl h) = absurd (let z : 2 ≡ 1 = ap kind (sym (h .1) ∙ e) in omega arith)
           says e (inr (inl h)) =
-              ((any-first, h .1, ring-any 257 any-first (is-first 257 (h .1))), λ p a o k n. full-up (h .0) p a o k n (decLt (full (iter f k p)) 256))
+              ((any-first, ring-any 257 any-first (is-first 257 (h .1))), λ p o k n. full-up (h .0) p o k n (decLt (full (iter f k p)) 256))
           says e (inr (inr h)) = absurd (let z : 0 ≡ 1 = ap kind (sym (h .2) ∙ e) in omega arith)
 
-          finds : ((p : ℕ) × (p < P) × OnFullRing f full p) × ((p : ℕ) → p < P → OnRing f p → (k : ℕ) → (full (iter f k p) ≡ 0 → ⊥) → full (iter f k p) ≡ 256)
+          finds : ((p : ℕ) × OnFullRing f full P p) × ((p : ℕ) → OnRing f P p → (k : ℕ) → (full (iter f k p) ≡ 0 → ⊥) → full (iter f k p) ≡ 256)
               → _⊎_ Low (High ⊎ None)
               → search f full chan P ≡ ceiling
           finds t (inl h) =
               let s = is-first 256 (h .0) in
-              absurd (let z = t .1 low-first (h .0) (s .ring) (s .steps) (s .waits) in omega (arith, s .below))
+              absurd (let z = t .1 low-first (s .ring) (s .steps) (s .waits) in omega (arith, s .below))
           finds t (inr (inl h)) = h .2
-          finds t (inr (inr h)) = absurd (not-before 257 (t .0 .0) (t .0 .1) (omega (arith, h .1, t .0 .1)) (any-ring (t .0 .0) (t .0 .2)))
+          finds t (inr (inr h)) = absurd (not-before 257 (t .0 .0) (omega (arith, h .1, t .0 .1 .ring .0)) (any-ring (t .0 .0) (t .0 .1)))

@@ -10,9 +10,10 @@ use native.Mathlib.Omega.{arith}
 use borrow.Author.Tests.{lt-ltb, le-ltb, eqb-true, ne-eqb}
 use lib.Dec.{eqb, ltb}
 use lib.IntN.{ℤ}
-use lib.ListN.{length, getD, replicate, List·getD-eq-default}
+use lib.ListN.{length, getD, replicate, length-replicate, List·getD-eq-default}
+use Rattle.base.specs.Lists.{table}
 use Rattle.base.proofs.Tests.{each-true}
-use Rattle.base.proofs.Lists.{Filled, same-at}
+use Rattle.base.proofs.Lists.{length-values, table-at, table-is, Filled, same-at}
 use Rattle.network.specs.declared.Instruction.{Instruction}
 use Rattle.network.specs.Rules.{countOf, startOf, senderOf, receiverOf, slotZero, unusedSlots, outside}
 use Rattle.base.proofs.Conjunction.{both-true}
@@ -33,11 +34,14 @@ use Rattle.lane.specs.Pick.{channelIn, instructionFor, stepAt, stepFor}
 use Rattle.lane.proofs.SoundLaws.{Sound, ended-at}
 use Rattle.relief.specs.declared.Waiting.{Waiting}
 use Rattle.relief.specs.declared.Waiting.the-variants.{Free, Empty, Full}
+use Rattle.relief.specs.declared.Way.{Way}
 use Rattle.relief.specs.declared.Wait.{Wait}
-use Rattle.relief.specs.Waits.{free, waitIn, waitOf, otherEnd, roomIn, channelWaited, pointing, fullWait, waitsAt}
+use Rattle.relief.specs.declared.Waits.{Waits}
+use Rattle.relief.specs.Waits as waits
+use Rattle.relief.specs.Waits.{free, forMessage, forRoom, waitIn, waitOf, otherEnd, roomIn, channelWaited, pointing, fullWait, waitsAt}
 use Rattle.relief.specs.Rings.{search}
 use Rattle.relief.specs.Relief.{foundIn}
-use Rattle.relief.specs.Parts.{waitingOf, waitAs, waitFrom, pointsIn, numberIn}
+use Rattle.relief.specs.Parts.{waitingOf, way, waitAs, waitFrom, waitingIn, wayOf, waitsIn, pointsIn, numberIn}
 use Rattle.relief.proofs.Walk.{points-at, points-off}
 
 -- ---- how a process waits
@@ -173,15 +177,14 @@ pub waits-are : (l : Lane) (p : ℕ) {c : ℕ} {w : Waiting} {r : Wait} → p < 
 unfolding pointing fullWait waitsAt
 waits-are l p {c} {w} h e₁ e₂ e₃ = rw (e₃, lt-ltb p (l .network .processes) h, wait-is l p, ← e₁, ← e₂) (from l w c)
 
--- the channel of a wait is the one that it is at
-at-channel : (w : Waiting) (c : ℕ) → waitAs w (channelWaited (waitAs w c)) ≡ waitAs w c
-at-channel Free c = refl
-at-channel Empty c = refl
-at-channel Full c = refl
+-- how it waits
+waiting-back : (w : Waiting) (c : ℕ) → w ≡ waitingIn (waitAs w c)
+waiting-back Free c = refl
+waiting-back Empty c = refl
+waiting-back Full c = refl
 
-pub waiting-so : (l : Lane) (p : ℕ) {w : Waiting} → w ≡ waitingFor l p → waitAs w (waitsAt l p) ≡ waitOf l p
-unfolding waitsAt
-waiting-so l p e = rw (e, wait-is l p) (at-channel (waitingFor l p) (channelIn (instructionFor p l)))
+pub way-is : (l : Lane) (p : ℕ) {w : Waiting} → w ≡ waitingFor l p → way w ≡ wayOf l p
+way-is l p {w} e = rw (wait-is l p, ← e) (ap way (waiting-back w (channelIn (instructionFor p l))))
 
 -- ---- what is no process
 module _ (l : Lane) (s : Sound l) (long : length (l .network .count) ≡ 16) (p : ℕ) (h : l .network .processes ≤ p) where
@@ -199,12 +202,23 @@ module _ (l : Lane) (s : Sound l) (long : length (l .network .count) ≡ 16) (p 
   unfolding standsAt
   no-instruction = rw (no-count, le-ltb (standingOf l p .position) 0 (omega arith))
 
-  no-wait : waitOf l p ≡ free
+  pub no-wait : waitOf l p ≡ free
   unfolding waitingOf
   no-wait = wait-is l p ∙ rw no-instruction (apart (not (endedAt l p) && not (channelOf l 0 .closed)) 0)
 
--- ---- the waits of all, as the code has them in three arrays
+-- ---- the waits of all, in four arrays
+-- an array that was made of one value and is filled for the P processes is the table of a function that has this value beyond them
+filled-out : {A : Type 0} (f : ℕ → A) (d : A) (n P p : ℕ) (a : List A) → P ≤ p → ((q : ℕ) → P ≤ q → f q ≡ d) → Filled f d (replicate n d) p a → a ≡ table n f
+filled-out f d n P p a h none t = table-is f n d a (t .long ∙ length-replicate n d) (λ q m. go q (decLt q p))
+  where
+    go : (q : ℕ) → Dec (q < p) → getD a q d ≡ f q
+    go q (yes m) = t .done q m
+    go q (no m) = t .kept q (omega arith) ∙ same-at n q d ∙ sym (none q (omega arith))
+
 module _ (l : Lane) (s : Sound l) (long : length (l .network .count) ≡ 16) where
+  no-way : (p : ℕ) → l .network .processes ≤ p → wayOf l p ≡ way Free
+  no-way p h = rw (no-wait l s long p h)
+
   no-full : (p : ℕ) → l .network .processes ≤ p → fullWait l p ≡ 0
   unfolding fullWait
   no-full p h = rw (no-wait l s long p h)
@@ -217,35 +231,54 @@ module _ (l : Lane) (s : Sound l) (long : length (l .network .count) ≡ 16) whe
   unfolding pointing
   no-pointing p h = rw (le-ltb p (l .network .processes) h)
 
-  same-points : (points : List ℕ) (p : ℕ) → (p < l .network .processes → getD points p 0 ≡ pointing l p) → pointsIn points (l .network .processes) p ≡ pointing l p
-  same-points points p e = go (decLt p (l .network .processes))
+  -- as the code fills them
+  pub waits-filled : (p : ℕ) {ways : List Way} {points full channel : List ℕ} → l .network .processes ≤ p
+      → Filled (wayOf l) (way Free) (replicate 16 (way Free)) p ways → Filled (pointing l) outside (replicate 16 outside) p points
+      → Filled (fullWait l) 0 (replicate 16 0) p full → Filled (waitsAt l) 0 (replicate 16 0) p channel
+      → record { ways = ways; points = points; full = full; channel = channel } ≡ waitsIn l
+  waits-filled p h t u v w =
+      rw (
+        filled-out (wayOf l) (way Free) 16 (l .network .processes) p _ h no-way t,
+        filled-out (pointing l) outside 16 (l .network .processes) p _ h no-pointing u,
+        filled-out (fullWait l) 0 16 (l .network .processes) p _ h no-full v,
+        filled-out (waitsAt l) 0 16 (l .network .processes) p _ h no-channel w,
+      )
+
+  -- as functions they are the rule's
+  same-points : (p : ℕ) → l .network .processes ≤ 16 → pointsIn (table 16 (pointing l)) (l .network .processes) p ≡ pointing l p
+  same-points p small = go (decLt p (l .network .processes))
     where
-      go : Dec (p < l .network .processes) → pointsIn points (l .network .processes) p ≡ pointing l p
-      go (yes h) = points-at points (l .network .processes) p h ∙ e h
-      go (no h) = points-off points (l .network .processes) p (omega arith) ∙ sym (no-pointing p (omega arith))
+      go : Dec (p < l .network .processes) → pointsIn (table 16 (pointing l)) (l .network .processes) p ≡ pointing l p
+      go (yes h) = points-at (table 16 (pointing l)) (l .network .processes) p h ∙ table-at (pointing l) 16 p 0 (omega arith)
+      go (no h) = points-off (table 16 (pointing l)) (l .network .processes) p (omega arith) ∙ sym (no-pointing p (omega arith))
 
-  same-numbers : (f : ℕ → ℕ) (p : ℕ) (numbers : List ℕ) → l .network .processes ≤ p → ((q : ℕ) → l .network .processes ≤ q → f q ≡ 0) → Filled f 0 (replicate 16 0) p numbers
-      → (q : ℕ) → getD numbers q 0 ≡ f q
-  same-numbers f p numbers h none t q = go (decLt q p)
+  same-numbers : (f : ℕ → ℕ) (p : ℕ) → l .network .processes ≤ 16 → ((q : ℕ) → l .network .processes ≤ q → f q ≡ 0) → numberIn (table 16 f) p ≡ f p
+  same-numbers f p small none = go (decLt p 16)
     where
-      go : Dec (q < p) → getD numbers q 0 ≡ f q
-      go (yes m) = t .done q m
-      go (no m) = t .kept q (omega arith) ∙ same-at 16 q 0 ∙ sym (none q (omega arith))
+      go : Dec (p < 16) → numberIn (table 16 f) p ≡ f p
+      go (yes h) = table-at f 16 p 0 h
+      go (no h) = List·getD-eq-default (table 16 f) 0 {n = p} (rw (length-values f 16 0) (omega arith)) ∙ sym (none p (omega arith))
 
-  pub filled-waits : (p : ℕ) {old points full channel : List ℕ} → l .network .processes ≤ p
-      → Filled (pointing l) 0 old p points → Filled (fullWait l) 0 (replicate 16 0) p full → Filled (waitsAt l) 0 (replicate 16 0) p channel
-      → (q : ℕ) → (pointsIn points (l .network .processes) q ≡ pointing l q) × (numberIn full q ≡ fullWait l q) × (numberIn channel q ≡ waitsAt l q)
-  filled-waits p {points = points} {full = full} {channel = channel} h t u v q =
-      (same-points points q (λ m. t .done q (omega arith)), same-numbers (fullWait l) p full h no-full u q, same-numbers (waitsAt l) p channel h no-channel v q)
+  -- so the search on them is the lane's
+  pub found-same : {w : Waits} → w ≡ waitsIn l
+      → search (pointsIn (w .points) (l .network .processes)) (numberIn (w .full)) (numberIn (w .channel)) (l .network .processes) ≡ foundIn l
+  found-same e =
+      let small = passed (l .network) (s .passed) .processes-high in
+      let P : ℕ = l .network .processes in
+      let e₁ : pointsIn (table 16 (pointing l)) P ≡ pointing l = fun-ext (λ q. same-points q small) in
+      let e₂ : numberIn (table 16 (fullWait l)) ≡ fullWait l = fun-ext (λ q. same-numbers (fullWait l) q small no-full) in
+      let e₃ : numberIn (table 16 (waitsAt l)) ≡ waitsAt l = fun-ext (λ q. same-numbers (waitsAt l) q small no-channel) in
+      ap (λ (w : Waits). search (pointsIn (w .points) P) (numberIn (w .full)) (numberIn (w .channel)) P) e
+      ∙ ap (λ (f : ℕ → ℕ). search f (numberIn (table 16 (fullWait l))) (numberIn (table 16 (waitsAt l))) P) e₁
+      ∙ ap (λ (f : ℕ → ℕ). search (pointing l) f (numberIn (table 16 (waitsAt l))) P) e₂
+      ∙ ap (λ (f : ℕ → ℕ). search (pointing l) (fullWait l) f P) e₃
 
--- the search on these arrays is the lane's
-pub found-same : (l : Lane) (points full channel : List ℕ)
-    → ((q : ℕ) → (pointsIn points (l .network .processes) q ≡ pointing l q) × (numberIn full q ≡ fullWait l q) × (numberIn channel q ≡ waitsAt l q))
-    → search (pointsIn points (l .network .processes)) (numberIn full) (numberIn channel) (l .network .processes) ≡ foundIn l
-found-same l points full channel e =
-    let e₁ : pointsIn points (l .network .processes) ≡ pointing l = fun-ext (λ q. e q .0) in
-    let e₂ : numberIn full ≡ fullWait l = fun-ext (λ q. e q .1) in
-    let e₃ : numberIn channel ≡ waitsAt l = fun-ext (λ q. e q .2) in
-    ap (λ (f : ℕ → ℕ). search f (numberIn full) (numberIn channel) (l .network .processes)) e₁
-    ∙ ap (λ (f : ℕ → ℕ). search (pointing l) f (numberIn channel) (l .network .processes)) e₂
-    ∙ ap (λ (f : ℕ → ℕ). search (pointing l) (fullWait l) f (l .network .processes)) e₃
+-- how process p waits, and its channel, say what it waits for
+at-channel : (w : waits.Wait) → waitAs (waitingIn w) (channelWaited w) ≡ w
+at-channel free = refl
+at-channel (forMessage c) = refl
+at-channel (forRoom c) = refl
+
+pub waiting-so : (l : Lane) (p : ℕ) {w : Waits} → p < 16 → w ≡ waitsIn l → waitAs (getD (w .ways) p (way Free) .waiting) (waitsAt l p) ≡ waitOf l p
+unfolding waitsAt
+waiting-so l p h e = rw (e, table-at (wayOf l) 16 p (way Free) h) (at-channel (waitOf l p))

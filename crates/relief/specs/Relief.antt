@@ -1,5 +1,7 @@
 -- Document 01, "Relief" and "Refusal table", 13 to 16: what relief answers, and what it leaves of the lane and the lent buffer.
 -- Assumes nothing.
+use mathlib.Core.Path.{_≡_}
+use mathlib.Core.Logic.{_⊎_}
 use mathlib.Core.Bool.{cond, not}
 use mathlib.Core.List.{List, _++_}
 use Prim.Native.Nat.{ℕ}
@@ -24,6 +26,11 @@ pub data Told : Type 0 where
 abbrev pub told : ReliefAnswer → Told
 told (Enlarged n c) = enlarged n c
 told (Refused r) = refused (numberOf r)
+
+-- enlarged, 13 or 14, and no other answer: so it is on a sound lane with room for all its processes (`relief-answers` of proofs/Relieving.antt)
+abbrev pub NoOther : Told → Type 0
+NoOther (enlarged n c) = Unit {0}
+NoOther (refused k) = (k ≡ 13) ⊎ (k ≡ 14)
 
 -- what relief leaves: the answer, the lane and the buffer
 pub record Relief : Type 0 where

@@ -4,7 +4,7 @@
 use mathlib.Core.Path.{_≡_}
 use mathlib.Core.Bool.{Bool, false, cond, _&&_, _||_, not}
 use mathlib.Core.List.{List, [], _∷_}
-use Prim.Native.Nat.{ℕ, zero, suc, _≤_}
+use Prim.Native.Nat.{ℕ, zero, suc, _≤_, _<_}
 use lib.Dec.{eqb, ltb}
 
 -- where k pointings lead from p
@@ -12,9 +12,10 @@ unfoldable pub iter : (ℕ → ℕ) → ℕ → ℕ → ℕ
 iter f zero p = p
 iter f (suc k) p = f (iter f k p)
 
--- "A ring is a closed chain of such pointings; length 1 is allowed": p is on a ring where some pointings, one or more, lead from it back to it
-abbrev pub OnRing : (ℕ → ℕ) → ℕ → Type 0
-OnRing f p = (k : ℕ) × (1 ≤ k) × (iter f k p ≡ p)
+-- "A ring is a closed chain of such pointings; length 1 is allowed": a process p is on a ring where some pointings, one or more, lead from it back to
+-- it. What is no process is on none, though outside points to outside.
+abbrev pub OnRing : (ℕ → ℕ) → ℕ → ℕ → Type 0
+OnRing f P p = (p < P) × (k : ℕ) × (1 ≤ k) × (iter f k p ≡ p)
 
 -- ---- the length of the ring of p: the least number of pointings, of those from k on and n in all, that leads back to p; 0 where none does
 unfoldable pub closesFrom : (ℕ → ℕ) → ℕ → ℕ → ℕ → ℕ

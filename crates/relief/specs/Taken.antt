@@ -8,15 +8,15 @@ use Prim.Native.Nat.{ℕ, _+_, _-_, _≤_, _<_}
 use lib.ListN.{length, getD}
 use Rattle.relief.specs.Rings.{iter, OnRing}
 
--- p is on a ring with a full wait: some pointings lead from p back to it, and some lead to such a wait
-pub record OnFullRing (f full : ℕ → ℕ) (p : ℕ) : Type 0 where
-  pub ring : OnRing f p
+-- a process p is on a ring with a full wait: some pointings lead from p back to it, and some lead to such a wait
+pub record OnFullRing (f full : ℕ → ℕ) (P p : ℕ) : Type 0 where
+  pub ring : OnRing f P p
   pub steps : ℕ
   pub waits : full (iter f steps p) ≡ 0 → ⊥
 
--- p is on a ring "with a full wait on a channel below" a limit
-pub record Relievable (f full : ℕ → ℕ) (limit p : ℕ) : Type 0 where
-  pub ring : OnRing f p
+-- a process p is on a ring "with a full wait on a channel below" a limit
+pub record Relievable (f full : ℕ → ℕ) (P limit p : ℕ) : Type 0 where
+  pub ring : OnRing f P p
   pub steps : ℕ
   pub waits : full (iter f steps p) ≡ 0 → ⊥
   pub below : full (iter f steps p) < limit
@@ -45,9 +45,8 @@ pub record Grows (full chan : ℕ → ℕ) (ring : List ℕ) (c : ℕ) : Type 0 
 -- "Among rings with a full wait on a channel below 256, the one with the lowest process number is taken"
 pub record Taken (f full chan : ℕ → ℕ) (P : ℕ) (ring : List ℕ) (c : ℕ) : Type 0 where
   pub process : ℕ
-  pub there : process < P
-  pub relievable : Relievable f full 256 process
-  pub first : (q : ℕ) → q < process → Relievable f full 256 q → ⊥
+  pub relievable : Relievable f full P 256 process
+  pub first : (q : ℕ) → q < process → Relievable f full P 256 q → ⊥
   pub listed : IsRing f process ring
   pub lowest : (i : ℕ) → i < length ring → process ≤ getD ring i 0
   pub grows : Grows full chan ring c

@@ -7,11 +7,8 @@ use lane::Lane;
 use process::Channel;
 ghost use mathlib.Core.Path.{_≡_};
 ghost use mathlib.Core.Bool.{true};
-ghost use Prim.Native.Nat.{ℕ, _<_};
-ghost use lib.ListN.{getD};
 ghost use Rattle.lane.specs.Sound.{soundOf};
-ghost use Rattle.relief.specs.Waits.{waitOf, pointing, fullWait, waitsAt};
-ghost use Rattle.relief.specs.Parts.{waitingOf, waitAs, way, waitFrom, pointsIn, numberIn};
+ghost use Rattle.relief.specs.Parts.{waitingOf, waitFrom, waitsIn};
 
 // How a process waits, live or not, that stands at this opcode, with its channel so and that channel's receiver ended or not: a receive at
 // an empty open channel, a send at a full open one.
@@ -67,7 +64,7 @@ fn wait_in(waiting: Waiting, c: u8, sender: u8, receiver: u8, capacity: u16) -> 
 // The waits of all processes, by their instructions: nothing is picked. Public for the bench; the callers have shown that the lane is sound.
 pub fn waits_of(lane: Lane) -> Waits
     requires { ⌜ soundOf lane ≡ true ⌝ }
-    ensures { λ r. ⌜ ((p : ℕ) → (pointsIn (r .points) (lane .network .processes) p ≡ pointing lane p) × (numberIn (r .full) p ≡ fullWait lane p) × (numberIn (r .channel) p ≡ waitsAt lane p)) × ((p : ℕ) → p < lane .network .processes → waitAs (getD (r .ways) p (way Waiting.Free) .waiting) (waitsAt lane p) ≡ waitOf lane p) ⌝ }
+    ensures { λ r. ⌜ r ≡ waitsIn lane ⌝ }
 {
     let first = lane.network.first;
     let sender = lane.network.sender;
@@ -76,7 +73,7 @@ pub fn waits_of(lane: Lane) -> Waits
     let mut ways = [Way {
         waiting: Waiting::Free,
     }; 16];
-    let mut points = [0u8; 16];
+    let mut points = [255u8; 16];
     let mut full = [0u16; 16];
     let mut channel = [0u8; 16];
     let mut p = 0;

@@ -3,4 +3,4 @@ pub mod Through
 pub mod Stretches
 pub mod Rule
 pub mod Rounds
-pub mod Answers
+pub mod Reliefs

@@ -38,7 +38,8 @@ pub data Next : Type 0 where
   ends : Ended → Next
   goes : Next
 
--- 13 ends it as settled, 14 as ceiling; a relief that enlarged goes on. (15 and 16 cannot come: there is room for any ring, and the lane is sound.)
+-- 13 ends it as settled, 14 as ceiling; a relief that enlarged goes on. 15 and 16 do not come: there is room for any ring, and the lane is sound
+-- (`drive-no-other` of proofs/Reliefs.antt).
 abbrev pub byRelief : relief.Told → Next
 byRelief (relief.enlarged n c) = goes
 byRelief (relief.refused n) = cond (eqb n 14) (ends ceiling) (ends settled)

@@ -1,4 +1,5 @@
 pub mod Running
 pub mod Run
 pub mod Drive
+pub mod Reliefs
 pub mod Parts

@@ -1,8 +1,22 @@
 -- `relief::grow` meets its contract.
 -- Assumes nothing.
+use mathlib.Core.Path.{_≡_}
+use Prim.Native.Nat.{ℕ}
 use borrow.Author.Needs.{needs}
+use lib.ListN.{set}
+use Rattle.process.specs.declared.Channel.{Channel}
+use Rattle.process.specs.Channels.{enlargeOne}
+use Rattle.process.specs.Want.{counted}
+use Rattle.lane.specs.declared.Lane.{Lane}
+use Rattle.lane.specs.State.{channelOf}
+use Rattle.relief.specs.Relief.{grown}
 use Rattle.relief.proofs.grow.Statement.{statement}
 use Rattle.relief.proofs.grow.Tie as tie
+
+-- the lane with this channel and this count
+anew : (l : Lane) (c : ℕ) {h : Channel} {n : ℕ} → h ≡ enlargeOne (channelOf l c) → n ≡ counted (l .accepted)
+    → record { network = l .network; registers = l .registers; processes = l .processes; channels = set (l .channels) c h; accepted = n } ≡ grown c l
+anew l c e f = rw (e, f)
 
 mul-enlarge : tie.Need-mul-enlarge
 mul-enlarge c = search needs
@@ -23,7 +37,7 @@ counted-requires : tie.Need-counted-requires
 counted-requires c κs = search needs
 
 returns : tie.Need-returns
-returns c = rw (c .counted .ensures, c .before .enlarge .ensures)
+returns c = anew (c .before .before .before .args .lane) (c .before .before .before .args .c) (c .before .enlarge .ensures) (c .counted .ensures)
 
 pub grow-spec : {M : Type 1} → statement M
 grow-spec =

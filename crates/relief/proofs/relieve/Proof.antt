@@ -25,8 +25,8 @@ is-sound c = sym (c .before .sound .ensures) ∙ not-false _ (c .if1 .left)
 -- what the search found
 sought : (c : tie.After-search) → foundIn (c .before .before .before .before .before .before .args .lane) ≡ foundOf (c .search .result)
 sought c =
-    let w = c .before .waits-of .result in
-    sym (found-same _ (w .points) (w .full) (w .channel) (c .before .waits-of .ensures .0)) ∙ sym (c .search .ensures .0)
+    let k = c .before .before .before in
+    sym (found-same _ (sound-says _ (is-sound k)) (simp length-map at (k .before .before .before .good .0 .1 .1 .0 .1 .1 .1 .1 .1 .0 .1 .0 .1)) (c .before .waits-of .ensures)) ∙ sym (c .search .ensures .0)
 
 -- a ring, and a channel that can grow
 ring-found : (c : tie.Else2) → foundIn (c .before .before .before .before .before .before .before .args .lane) ≡ found (take (c .before .search .result .length) (c .before .search .result .ring)) (c .before .search .result .channel)

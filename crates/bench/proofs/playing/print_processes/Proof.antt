@@ -9,6 +9,7 @@ use Rattle.network.proofs.Passed.{passed}
 use Rattle.lane.specs.State.{standingOf}
 use Rattle.lane.proofs.SoundLaws.{sound-says}
 use Rattle.relief.specs.Waits.{waitsAt}
+use Rattle.relief.proofs.WaitLaws.{waiting-so}
 use Rattle.bench_rules.specs.Playing.{statusIn, statusOf}
 use Rattle.bench_rules.proofs.Underway.{Underway, begun, same-long}
 use Rattle.bench.proofs.Stages.{procsFrom, room-for-process, after-process, no-process-left}
@@ -37,7 +38,7 @@ stands c =
     let t = turn-of c in
     let l = t .before .before .before .before .before .before .args .t1 in
     let p = t .before .before .loop .p in
-    c .status .ensures (waitsAt l p) ∙ ap (statusIn (standingOf l p .condition)) (t .before .before .before .waits-of .ensures .1 p (t .if1 .taken))
+    c .status .ensures (waitsAt l p) ∙ ap (statusIn (standingOf l p .condition)) (waiting-so l p (below t) (t .before .before .before .waits-of .ensures))
 
 waits-of-requires : tie.Need-waits-of-requires Inv-loop μ-loop
 waits-of-requires c κs = c .before .before .pre .0

@@ -1,4 +1,4 @@
--- `relief::graph::waits_of` meets its contract. The loop's invariant: the arrays hold the waits of the processes passed, and 0 beyond them.
+-- `relief::graph::waits_of` meets its contract. The loop's invariant: the arrays hold the waits of the processes passed, and are as they were made beyond them.
 -- Assumes nothing.
 use mathlib.Core.Path.{_≡_, refl, ap, _∙_}
 use mathlib.Core.Bool.{not}
@@ -7,20 +7,20 @@ use native.Mathlib.Omega.{arith}
 use borrow.Author.Needs.{needs}
 use lib.ListN.{length-map}
 use Rattle.base.proofs.Lists.{Filled, filled-none, filled-more}
+use Rattle.network.specs.Rules.{outside}
 use Rattle.lane.specs.Pick.{channelIn, instructionFor}
 use Rattle.lane.proofs.SoundLaws.{sound-says}
 use Rattle.lane_picks.proofs.Turn.{Next, next-of, instruction-is}
 use Rattle.relief.specs.declared.Waiting.the-variants.{Free}
-use Rattle.relief.specs.declared.Way.{Way}
 use Rattle.relief.specs.Waits.{pointing, fullWait, waitsAt}
-use Rattle.relief.specs.Parts.{way}
-use Rattle.relief.proofs.WaitLaws.{waitingFor, waiting-is, waits-are, waiting-so, filled-waits}
+use Rattle.relief.specs.Parts.{way, wayOf}
+use Rattle.relief.proofs.WaitLaws.{waitingFor, waiting-is, waits-are, way-is, waits-filled}
 use Rattle.relief.proofs.graph.waits_of.Statement.{statement}
 use Rattle.relief.proofs.graph.waits_of.Tie as tie
 
 abbrev Inv-loop : tie.InvT-loop
 Inv-loop lane first sender receiver used ways₀ points₀ full₀ channel₀ p₀ ways points full channel p =
-    (p ≤ lane .network .processes) × Filled (pointing lane) 0 points₀ p points × Filled (fullWait lane) 0 full₀ p full × Filled (waitsAt lane) 0 channel₀ p channel × Filled (λ q. way (waitingFor lane q)) (way Free) ways₀ p ways
+    (p ≤ lane .network .processes) × Filled (pointing lane) outside points₀ p points × Filled (fullWait lane) 0 full₀ p full × Filled (waitsAt lane) 0 channel₀ p channel × Filled (wayOf lane) (way Free) ways₀ p ways
 
 abbrev μ-loop : tie.MeasureT-loop
 μ-loop lane first sender receiver used ways₀ points₀ full₀ channel₀ p₀ ways points full channel p = lane .network .processes - p
@@ -61,7 +61,7 @@ last-of c = turn-of (fetch-of (waiting-of c))
 
 -- ---- the needs
 loop-holds : tie.Need-loop-holds Inv-loop μ-loop
-loop-holds c = (omega arith, filled-none _ 0 _, filled-none _ 0 _, filled-none _ 0 _, filled-none _ (way Free) _)
+loop-holds c = (omega arith, filled-none _ outside _, filled-none _ 0 _, filled-none _ 0 _, filled-none _ (way Free) _)
 
 mul-standing : tie.Need-mul-standing Inv-loop μ-loop
 mul-standing c = omega (arith, here c .low)
@@ -151,19 +151,17 @@ loop-again c =
     let how = waiting (waiting-of c) in
     let w = waits-are (last-of c .before .before .before .before .before .args .t1) (l .p) (h .there) how (waiting-of c .before .before .before .before .before .before .channel-of .ensures .0 ∙ ap channelIn (stands (fetch-of (waiting-of c)))) (c .wait-in .ensures) in (
       omega (arith, h .there),
-      filled-more _ 0 _ (l .p) (l .points) _ (omega (arith, l .inv .1 .long, h .low)) (w .0) (l .inv .1),
+      filled-more _ outside _ (l .p) (l .points) _ (omega (arith, l .inv .1 .long, h .low)) (w .0) (l .inv .1),
       filled-more _ 0 _ (l .p) (l .full) _ (omega (arith, l .inv .2 .long, h .low)) (w .1) (l .inv .2),
       filled-more _ 0 _ (l .p) (l .channel) _ (omega (arith, l .inv .3 .long, h .low)) (w .2) (l .inv .3),
-      filled-more _ (way Free) _ (l .p) (l .ways) _ (omega (arith, l .inv .4 .long, h .low)) (ap way how) (l .inv .4),
+      filled-more _ (way Free) _ (l .p) (l .ways) _ (omega (arith, l .inv .4 .long, h .low)) (way-is (last-of c .before .before .before .before .before .args .t1) (l .p) how) (l .inv .4),
     )
 
 returns : tie.Need-returns Inv-loop μ-loop
 returns c =
     let l = c .before .loop in
-    let s = c .before .before .before .before .before in (
-      filled-waits (s .args .t1) (sound-says _ (s .pre)) (simp length-map at (s .good .0 .1 .1 .0 .1 .1 .1 .1 .1 .0 .1 .0 .1)) (l .p) (c .loop-test .left) (l .inv .1) (l .inv .2) (l .inv .3),
-      λ q m. waiting-so (s .args .t1) q (ap (λ (w : Way). w .waiting) (l .inv .4 .done q (omega (arith, c .loop-test .left)))),
-    )
+    let s = c .before .before .before .before .before in
+    waits-filled (s .args .t1) (sound-says _ (s .pre)) (simp length-map at (s .good .0 .1 .1 .0 .1 .1 .1 .1 .1 .0 .1 .0 .1)) (l .p) (c .loop-test .left) (l .inv .4) (l .inv .1) (l .inv .2) (l .inv .3)
 
 pub waits-of-spec : {M : Type 1} → statement M
 waits-of-spec =

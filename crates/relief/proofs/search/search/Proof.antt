@@ -19,7 +19,7 @@ Inv-loop count waits ring₀ length₀ channel₀ ceiling₀ start at₀ best₀
     (length ≡ 0) × (ceiling ≡ ceiling₀) × Trail (pointsIn (waits .points) count) (numberIn (waits .full)) (numberIn (waits .channel)) count ring start at best n
 
 abbrev μ-loop : tie.MeasureT-loop
-μ-loop count waits ring₀ length₀ channel₀ ceiling₀ start at₀ best₀ n₀ ring length channel ceiling at best n = count - n
+μ-loop count waits ring₀ length₀ channel₀ ceiling₀ start at₀ best₀ n₀ ring length channel ceiling at best n = 16 - n
 
 abbrev Inv-search : tie.InvT-search
 Inv-search count waits ring₀ length₀ channel₀ ceiling₀ start₀ ring length channel ceiling start =

@@ -8,6 +8,8 @@ use borrow.Author.Tests.{eqb-true, not-false}
 use native.Mathlib.Nat.{mul-le-mul-left}
 use native.Mathlib.Omega.{arith}
 use lib.ListN.{length-map, length-take}
+use mir.Syntax.{w64}
+use mir.Val.{Fits}
 use Rattle.network.proofs.Passed.{Passed, passed}
 use Rattle.lane.specs.State.{world}
 use Rattle.lane.proofs.Shape.{Shaped}
@@ -40,12 +42,15 @@ rules : (c : tie.Start Inv-loop μ-loop) → Passed (c .args .lane .network)
 rules c = passed _ (sound-says (c .args .lane) (ready c .sound) .passed)
 
 -- the picks of rounds of which some are left are no more than those of all
-picks-fit : (c : tie.Start Inv-loop μ-loop) (left : ℕ) → c .args .processes * (c .args .most - left) ≤ 18446744073709551615
+picks-fit : (c : tie.Start Inv-loop μ-loop) (left : ℕ) → Fits w64 (c .args .processes * (c .args .most - left))
 picks-fit c left =
     let h : c .args .most - left ≤ c .args .most = omega arith in
     omega (arith, mul-le-mul-left (c .args .processes) h, c .pre .3)
 
 -- ---- after rounds
+some-left : (c : tie.In-loop Inv-loop μ-loop) → 0 < c .before .loop .left
+some-left c = omega (arith, c .loop-test .taken)
+
 abbrev loop-of : tie.After-struct-known Inv-loop μ-loop → tie.At-loop Inv-loop μ-loop
 loop-of c = c .before .before .before .before .before .before .before .before
 
@@ -56,7 +61,7 @@ abbrev picks-of : tie.After-struct-known Inv-loop μ-loop → tie.After-pick-rou
 picks-of c = c .before .before .before .before
 
 fewer : (c : tie.After-struct-known Inv-loop μ-loop) → picks-of c .pick-rounds .result .left < loop-of c .loop .left
-fewer c = fewer-left (loop-of c .loop .inv) (test-of c .loop-test .taken) (picks-of c .pick-rounds .ensures) (c .before .before .next-after .ensures)
+fewer c = fewer-left (loop-of c .loop .inv) (some-left (test-of c)) (picks-of c .pick-rounds .ensures) (c .before .before .next-after .ensures)
 
 -- ---- the needs
 loop-holds : tie.Need-loop-holds Inv-loop μ-loop
@@ -69,7 +74,7 @@ slice-aggregate-pick-rounds : tie.Need-slice-aggregate-pick-rounds Inv-loop μ-l
 slice-aggregate-pick-rounds c = simp length-take (omega (arith, c .before .before .before .loop .inv .high))
 
 sub-pick-rounds : tie.Need-sub-pick-rounds Inv-loop μ-loop
-sub-pick-rounds c = c .before .before .loop-test .taken
+sub-pick-rounds c = some-left (c .before .before)
 
 pick-rounds-requires : tie.Need-pick-rounds-requires Inv-loop μ-loop
 pick-rounds-requires c κs =
@@ -82,7 +87,7 @@ next-after-requires c κs = search needs
 add-enlarged : tie.Need-add-enlarged Inv-loop μ-loop
 add-enlarged c =
     let s = loop-of c .loop .inv in
-    omega (arith, c .before .before .next-after .ensures .few, s .few, s .within, test-of c .loop-test .taken, c .before .before .before .before .before .before .before .before .before .fits .most)
+    omega (arith, c .before .before .next-after .ensures .few, s .few, s .within, some-left (test-of c), c .before .before .before .before .before .before .before .before .before .fits .most)
 
 enum-known-next : tie.Need-enum-known-next Inv-loop μ-loop
 enum-known-next c = search needs
@@ -93,9 +98,7 @@ sub-driven c =
     omega (arith, fewer d, loop-of d .loop .inv .within)
 
 mul-driven : tie.Need-mul-driven Inv-loop μ-loop
-mul-driven c =
-    let d = c .before .before .before in
-    omega (arith, picks-fit (loop-of d .before) (picks-of d .pick-rounds .result .left))
+mul-driven c = picks-fit (loop-of (c .before .before .before) .before) _
 
 driven-requires : tie.Need-driven-requires Inv-loop μ-loop
 driven-requires c κs = search needs
@@ -104,13 +107,13 @@ same-length : tie.Need-same-length Inv-loop μ-loop
 same-length c =
     let d = c .before .before .before .before in
     let s = loop-of d .loop .inv in
-    rounds-ready s (test-of d .loop-test .taken) (picks-of d .pick-rounds .ensures) (d .before .before .next-after .ensures) .long ∙ sym (s .long₀)
+    rounds-ready s (some-left (test-of d)) (picks-of d .pick-rounds .ensures) (d .before .before .next-after .ensures) .long ∙ sym (s .long₀)
 
 returns : tie.Need-returns Inv-loop μ-loop
 returns c =
     let d = c .before .before .before .before in
     rw (c .driven .ensures)
-    (rounds-end (loop-of d .loop .inv) (test-of d .loop-test .taken) (picks-of d .pick-rounds .ensures) (d .before .before .next-after .ensures) (c .before .before .next .given .1))
+    (rounds-end (loop-of d .loop .inv) (some-left (test-of d)) (picks-of d .pick-rounds .ensures) (d .before .before .next-after .ensures) (c .before .before .next .given .1))
 
 enum-told : tie.Need-enum-told Inv-loop μ-loop
 enum-told c = search needs
@@ -121,13 +124,13 @@ loop-less c = fewer (c .before .before)
 loop-again : tie.Need-loop-again Inv-loop μ-loop
 loop-again c =
     let d = c .before .before in
-    rounds-go (loop-of d .loop .inv) (test-of d .loop-test .taken) (picks-of d .pick-rounds .ensures) (d .before .before .next-after .ensures) (c .enum-told .given .1)
+    rounds-go (loop-of d .loop .inv) (some-left (test-of d)) (picks-of d .pick-rounds .ensures) (d .before .before .next-after .ensures) (c .enum-told .given .1)
 
 sub-driven-2 : tie.Need-sub-driven-2 Inv-loop μ-loop
 sub-driven-2 c = c .before .loop .inv .within
 
 mul-driven-2 : tie.Need-mul-driven-2 Inv-loop μ-loop
-mul-driven-2 c = omega (arith, picks-fit (c .before .before) (c .before .loop .left))
+mul-driven-2 c = picks-fit (c .before .before) _
 
 driven-requires-2 : tie.Need-driven-requires-2 Inv-loop μ-loop
 driven-requires-2 c κs = search needs
