@@ -1,93 +1,28 @@
--- The lines of a bench in stages: each stage writes where the last one ended, and all of them together are the rule's lines.
+-- The lines of a bench in stages: each stage writes where the last one ended, and all of them together are the rule's lines: of all pick bytes, and of the whole listing.
 -- Assumes nothing.
 use mathlib.Core.Path.{_≡_, refl, sym, ap, subst, _∙_}
-use mathlib.Core.List.{List, [], _∷_, append-assoc, append-nil}
-use mathlib.Core.Bool.{Bool, true, false}
-use Prim.Native.Nat.{ℕ, suc, _+_, _-_, _≤_, _<_}
-use native.Mathlib.Nat.{sub-zero}
+use mathlib.Core.List.{List, append-nil}
+use mathlib.Core.Bool.{true, false}
+use Prim.Native.Nat.{ℕ, _+_, _≤_, _<_}
 use native.Mathlib.Numerals.{add-one}
 use native.Mathlib.Omega.{arith}
-use borrow.Author.Tests.{eq-eqb, ne-eqb}
 use lib.IntN.{ℤ, pos}
 use lib.ListN.{length, getD, drop, replicate, drop-of-length-le}
 use lib.Seq.{drop-cons}
 use Rattle.network.specs.declared.Network.{Network}
 use Rattle.lane.specs.declared.Lane.{Lane}
-use Rattle.lane.specs.State.{World, world, standingOf, freshOf}
-use Rattle.lane.specs.Pick.{pickIn, pickNext, pickAll, unpicked}
-use Rattle.relief.specs.Relief.{Told, relieveOf}
+use Rattle.lane.specs.State.{World, world, freshOf}
 use Rattle.schedule.specs.Run.{names}
-use Rattle.schedule.specs.Running.{relieves}
 use Rattle.schedule.proofs.Ready.{Ready}
-use Rattle.listing.specs.declared.Status.{Status}
-use Rattle.listing.specs.Text.{Line, proc, text, lineText}
+use Rattle.listing.specs.Text.{Line, text}
 use Rattle.listing.specs.Written.{written}
 use Rattle.bench_rules.specs.Printed.{Printed, printed, silent, thenDo}
 use Rattle.bench_rules.specs.Input.{leftAt}
-use Rattle.bench_rules.specs.Feeding.{Inputs, inputs, feeds}
-use Rattle.bench_rules.specs.Emptying.{Outputs, outputs, empties}
-use Rattle.bench_rules.specs.Playing.{growLines, relievesIn, picksIn, Bench, bench, picksOn, playsOne, plays, statusOf, procLines, start, linesOf}
+use Rattle.bench_rules.specs.Playing.{Bench, bench, playsOne, plays, procLines, start, linesOf}
 use Rattle.bench_rules.proofs.Underway.{Underway, begun, room-for, more, finished}
-use Rattle.bench.specs.declared.playing.Turn.{Turn}
-use Rattle.bench.specs.Parts.{held}
-use Rattle.bench.proofs.Kept.{plays-one-ready}
-
--- ---- a pick byte alone: a relief, or a pick
-pub relief-is :
-    {p : ℕ} {a : Told} {l′ : Lane} (l : Lane) (cells : List ℤ) → p ≡ 255 → a ≡ relieveOf l (replicate 16 0) .answer → l′ ≡ relieveOf l (replicate 16 0) .lane
-    → picksIn p (world l cells) ≡ printed (growLines a l′) (world l′ cells)
-unfolding relievesIn relieves
-relief-is {p} l cells e q r = rw (eq-eqb p 255 e, q, r)
-
-pub pick-is : (p : ℕ) (w : World) → (p ≡ 255 → ⊥) → picksIn p w ≡ silent (pickIn p w)
-pick-is p w n = rw (ne-eqb p 255 n)
-
-pub picked-one : (p : ℕ) (w : World) → pickAll (p ∷ []) (unpicked w) .world ≡ pickIn p w
-unfolding pickNext
-picked-one p w = refl
-
--- ---- a pick byte with what comes before and after it: what is still to be done after the takes, the pick, the feeds
-abbrev fromTakes : List (List ℤ) → Outputs → Printed Bench
-fromTakes left o = silent (bench (o .world) left (o .given))
-
-abbrev fromPick : List Bool → List (List ℤ) → World → Printed Bench
-fromPick given left w = thenDo (empties (outputs w given)) (fromTakes left)
-
-abbrev fromFeeds : ℕ → List Bool → Inputs → Printed Bench
-fromFeeds p given i = thenDo (picksIn p (i .world)) (fromPick given (i .left))
-
-picks-on-is : (p : ℕ) (given : List Bool) (i : Inputs) → picksOn p given i ≡ fromFeeds p given i
-picks-on-is p given i =
-    let d : Printed World = picksIn p (i .world) in
-    let o : Printed Outputs = empties (outputs (d .after) given) in
-    ap (λ (ls : List Line). printed ls (bench (o .after .world) (i .left) (o .after .given))) (append-assoc (d .lines) (o .lines) [])
-
-plays-one-is : (p : ℕ) (b : Bench) {i : Inputs} → i ≡ feeds (inputs (b .left) (b .world)) → playsOne p b ≡ fromFeeds p (b .given) i
-unfolding playsOne
-plays-one-is p b e = picks-on-is p (b .given) (feeds (inputs (b .left) (b .world))) ∙ ap (fromFeeds p (b .given)) (sym e)
-
-module _ (p : ℕ) (b : Bench) (at : ℕ) (entry : List ℕ) (room : at + length (text (playsOne p b .lines)) ≤ length entry) {i : Inputs} (fed : i ≡ feeds (inputs (b .left) (b .world))) where
-  after-feeds : Underway (playsOne p b) at entry (fromFeeds p (b .given)) i at entry
-  after-feeds =
-      let e = plays-one-is p b fed in
-      subst (λ (d : Printed Bench). Underway d at entry (fromFeeds p (b .given)) i at entry) (sym e)
-      (begun (fromFeeds p (b .given)) i at entry (subst (λ (d : Printed Bench). at + length (text (d .lines)) ≤ length entry) e room))
-
-  pub room-for-pick : at + length (text (picksIn p (i .world) .lines)) ≤ length entry
-  room-for-pick = room-for after-feeds (picksIn p (i .world)) (fromPick (b .given) (i .left)) refl
-
-  module _ {w : World} {place : ℕ} {listing : List ℕ}
-      (picked : w ≡ picksIn p (i .world) .after) (there : place ≡ at + length (text (picksIn p (i .world) .lines))) (here : listing ≡ written at (text (picksIn p (i .world) .lines)) entry) where
-    after-pick : Underway (playsOne p b) at entry (fromPick (b .given) (i .left)) w place listing
-    after-pick = more after-feeds (picksIn p (i .world)) (fromPick (b .given) (i .left)) refl picked there here
-
-    pub room-for-takes : place + length (text (empties (outputs w (b .given)) .lines)) ≤ length listing
-    room-for-takes = room-for after-pick (empties (outputs w (b .given))) (fromTakes (i .left)) refl
-
-    pub after-takes : {o : Outputs} {end : ℕ} {listing′ : List ℕ}
-        → o ≡ empties (outputs w (b .given)) .after → end ≡ place + length (text (empties (outputs w (b .given)) .lines)) → listing′ ≡ written place (text (empties (outputs w (b .given)) .lines)) listing
-        → (bench (o .world) (i .left) (o .given) ≡ playsOne p b .after) × (end ≡ at + length (text (playsOne p b .lines))) × (listing′ ≡ written at (text (playsOne p b .lines)) entry)
-    after-takes {o} e q r = finished (more after-pick (empties (outputs w (b .given))) (fromTakes (i .left)) refl e q r) (bench (o .world) (i .left) (o .given)) refl
+use Rattle.bench_turns.specs.declared.Turn.{Turn}
+use Rattle.bench_turns.specs.Turns.{held}
+use Rattle.bench_turns.proofs.Kept.{plays-one-ready}
 
 -- ---- all pick bytes
 plays-next : (ps : List ℕ) (i : ℕ) (b : Bench) → i < length ps → plays (drop i ps) b ≡ thenDo (playsOne (getD ps i 0) b) (plays (drop (i + 1) ps))
@@ -128,43 +63,6 @@ module _ {n : Network} {input picks : List ℕ} {b₀ : Bench} {entry : List ℕ
   pub no-byte-left : length picks ≤ i
       → (held t input cells ≡ plays picks b₀ .after) × (t .at ≡ 0 + length (text (plays picks b₀ .lines))) × (listing ≡ written 0 (text (plays picks b₀ .lines)) entry)
   no-byte-left h = finished (s .underway) (held t input cells) (ap (λ (ps : List ℕ). plays ps (held t input cells)) (drop-of-length-le picks h))
-
--- ---- the lines of the processes
--- those of process p and of the ones after it, n in all
-abbrev pub procsFrom : ℕ → ℕ → Lane → Printed Lane
-procsFrom n p l = printed (procLines l p (n - p)) l
-
-abbrev procAt : ℕ → Lane → Printed Lane
-procAt p l = printed (proc p (statusOf l p) (standingOf l p .moves) ∷ []) l
-
-procs-next : (n p : ℕ) (l : Lane) → p < n → procsFrom n p l ≡ thenDo (procAt p l) (procsFrom n (p + 1))
-procs-next n p l h =
-    let d : n - p ≡ suc (n - (p + 1)) = omega arith in
-    rw (d, add-one p)
-
-module _ {n p at : ℕ} {entry : List ℕ} {l : Lane} {place : ℕ} {listing : List ℕ} {status : Status}
-    (u : Underway (procsFrom n 0 l) at entry (procsFrom n p) l place listing) (h : p < n) (e : status ≡ statusOf l p) where
-  line-is : lineText (proc p status (standingOf l p .moves)) ≡ text (procAt p l .lines)
-  line-is = rw (e, append-nil)
-
-  pub room-for-process : place + length (lineText (proc p status (standingOf l p .moves))) ≤ length listing
-  room-for-process = rw line-is (room-for u (procAt p l) (procsFrom n (p + 1)) (procs-next n p l h))
-
-  pub after-process : {place′ : ℕ} {listing′ : List ℕ}
-      → (place′ ≡ place + length (lineText (proc p status (standingOf l p .moves)))) × (listing′ ≡ written place (lineText (proc p status (standingOf l p .moves))) listing)
-      → Underway (procsFrom n 0 l) at entry (procsFrom n (p + 1)) l place′ listing′
-  after-process q =
-      more u (procAt p l) (procsFrom n (p + 1)) (procs-next n p l h) refl
-      (q .0 ∙ ap (λ (t : List ℕ). place + length t) line-is)
-      (q .1 ∙ ap (λ (t : List ℕ). written place t listing) line-is)
-
--- no process left
-pub no-process-left : {n p at : ℕ} {entry : List ℕ} {l : Lane} {place : ℕ} {listing : List ℕ} → Underway (procsFrom n 0 l) at entry (procsFrom n p) l place listing → n ≤ p
-    → (place ≡ at + length (text (procLines l 0 n))) × (listing ≡ written at (text (procLines l 0 n)) entry)
-no-process-left {n} {p} {at} {entry} {l} u h =
-    let d : n - p ≡ 0 = omega arith in
-    let f = finished u l (ap (λ (k : ℕ). printed (procLines l p k) l) d) in
-    (rw sub-zero at (f .1), rw sub-zero at (f .2))
 
 -- ---- the whole listing: the lines of the pick bytes, then those of the processes
 then-silent : {A : Type 0} (d : Printed A) → d ≡ thenDo d silent

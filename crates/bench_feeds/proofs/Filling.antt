@@ -17,7 +17,7 @@ use Rattle.lane.specs.Calls.{Told, accepted, refused, Called, called, isClosed,
 use Rattle.lane.specs.Calls as calls
 use Rattle.lane.proofs.CallCases.{feed-cases, close-cases}
 use Rattle.lane.proofs.CallLaws.{Preserves, kept-then, feed-kept, feed-refused}
-use Rattle.lane_calls.specs.Tests.{Opened, offeredTo}
+use Rattle.call_parts.specs.Tests.{Opened, offeredTo}
 use Rattle.lane_calls.proofs.TestLaws.{says-opened, feed-opened, close-opened}
 use Rattle.bench_rules.specs.Input.{records, channelAt, valueAt, leftFrom}
 use Rattle.bench_rules.specs.Feeding.{isAccepted, fed, feeding}

@@ -11,7 +11,7 @@ use Rattle.lane.specs.declared.Lane.{Lane}
 use Rattle.lane.specs.State.{world, channelOf}
 use Rattle.lane.specs.Calls.{Told, Called, called, refuse, receiverInside, taken, takeOf}
 use Rattle.lane.proofs.CallLaws.{Preserves, kept-then, take-kept}
-use Rattle.lane_calls.specs.Tests.{Opened}
+use Rattle.call_parts.specs.Tests.{Opened}
 use Rattle.lane_calls.proofs.TestLaws.{says-opened, take-opened}
 use Rattle.listing.specs.Text.{text}
 use Rattle.listing.specs.Written.{written}

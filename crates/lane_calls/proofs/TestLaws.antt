@@ -22,9 +22,9 @@ use Rattle.lane.specs.Sound.{soundOf}
 use Rattle.lane.specs.Pick.{Progress, pickNext, pickAll, unpicked}
 use Rattle.lane.specs.Calls.{Called, called, answerTo, accepted, refuse, picked, pickOf, senderInside, receiverInside, isClosed, receiverEnded, stored, counting, fed, feedOf, closed, closeOf, taken, takeOf}
 use Rattle.lane.proofs.SoundLaws.{ChannelSound, sound-says}
-use Rattle.lane_calls.specs.declared.Tested.{Tested}
-use Rattle.lane_calls.specs.declared.Tested.the-variants as tested
-use Rattle.lane_calls.specs.Tests.{decided, refuseWith, opened, offered, Opened, offeredTo}
+use Rattle.call_parts.specs.declared.Tested.{Tested}
+use Rattle.call_parts.specs.declared.Tested.the-variants as tested
+use Rattle.call_parts.specs.Tests.{decided, refuseWith, opened, offered, Opened, offeredTo}
 
 -- ---- one test
 decide-with : (bad : Bool) (r : Refusal) (t : Tested) (w : World) (next : Called) → decided (refuseWith bad r t) w next ≡ refuse bad (numberOf r) w (decided t w next)

@@ -1,7 +1,6 @@
 // The calls on a lane: a pick of a process; feed, close and take at a channel, from outside. A refused call hands the lane back as it was.
-mod tests;
-
 use base::Refusal;
+use call_parts::Tested;
 use lane::Fed;
 use lane::FeedAnswer;
 use lane::Lane;
@@ -9,71 +8,17 @@ use lane::PickAnswer;
 use lane::Picked;
 use lane::TakeAnswer;
 use lane::Taken;
-use process::Channel;
-use process::Outcome;
 ghost use mathlib.Core.Path.{_≡_};
-ghost use mathlib.Core.Bool.{false, not};
+ghost use mathlib.Core.Bool.{false};
 ghost use mathlib.Core.List.{List};
 ghost use Prim.Native.Nat.{_<_};
 ghost use lib.IntN.{ℤ};
 ghost use lib.ListN.{length};
-ghost use Rattle.process.specs.Execute.{full};
-ghost use Rattle.lane.specs.State.{world, channelOf, count};
-ghost use Rattle.lane.specs.Calls.{called, answerTo, picked, pickOf, pickTold, feedTold, takeTold, refuse, theEnd, receiverInside, receiverEnded, stored, counting, fed, feedOf, closed, closeOf, taken, takeOf};
-ghost use Rattle.lane_calls.specs.Tests.{Opened, offeredTo};
-
-// What the tests of a call say: none refuses, or the first that does.
-enum Tested {
-    Passed,
-    Refused(Refusal),
-}
-
-// ---- parts of a lane
-// The receiver of channel c has ended.
-fn receiver_ended(lane: Lane, c: usize) -> bool
-    requires { ⌜ c < 32 ⌝ }
-    ensures { λ r. ⌜ ((cells : List ℤ) → r ≡ receiverEnded c (world lane cells)) ⌝ }
-{
-    let receiver = lane.network.receiver;
-    let e = receiver[c] as usize;
-    let processes = lane.processes;
-    lane_sound::ended_if(e, processes[e % 16])
-}
-
-// A channel has no room; one whose receiver has ended is never full.
-fn is_full(h: Channel, gone: bool) -> bool
-    ensures { λ r. ⌜ r ≡ full gone h ⌝ }
-{
-    if gone {
-        return false;
-    }
-    h.held == h.capacity
-}
-
-// One more accepted call.
-fn count(lane: Lane) -> Lane
-    ensures { λ r. ⌜ r ≡ count lane ⌝ }
-{
-    let mut l = lane;
-    l.accepted = process::counted(lane.accepted);
-    l
-}
+ghost use Rattle.lane.specs.State.{world, channelOf};
+ghost use Rattle.lane.specs.Calls.{called, picked, pickOf, pickTold, feedTold, takeTold, refuse, receiverInside, receiverEnded, stored, fed, feedOf, closed, closeOf, taken, takeOf};
+ghost use Rattle.call_parts.specs.Tests.{Opened, offeredTo};
 
 // ---- pick
-// What a pick answers, by what it did and its channel.
-fn answer_to(outcome: Outcome, c: usize) -> PickAnswer
-    ensures { λ r. ⌜ pickTold r ≡ answerTo outcome c ⌝ }
-{
-    match outcome {
-        Outcome::Moved => PickAnswer::Moved,
-        Outcome::Sent(_) => PickAnswer::Moved,
-        Outcome::Halted => PickAnswer::Moved,
-        Outcome::WaitEmpty => PickAnswer::WaitingEmpty(c),
-        Outcome::WaitFull => PickAnswer::WaitingFull(c),
-        Outcome::Ended => PickAnswer::Ended,
-    }
-}
-
 // A pick of a process that is there, of a lane that is sound, with its cells.
 fn pick_there(lane: Lane, cells: &mut [i32], p: usize) -> Picked
     requires { ⌜ Opened (length (now cells)) lane p (lane .network .processes) ⌝ }
@@ -83,7 +28,7 @@ fn pick_there(lane: Lane, cells: &mut [i32], p: usize) -> Picked
     let ran = lane_picks::pick_all(lane, cells, &one);
     let l = ran.lane;
     let last = ran.last;
-    let answer = answer_to(last, ran.channel);
+    let answer = call_parts::answer_to(last, ran.channel);
     Picked { lane: l, answer }
 }
 
@@ -91,7 +36,7 @@ fn pick_there(lane: Lane, cells: &mut [i32], p: usize) -> Picked
 pub fn pick(lane: Lane, cells: &mut [i32], p: usize) -> Picked
     ensures { λ r. ⌜ called (pickTold (r .answer)) (world (r .lane) (now (cells .exit))) ≡ pickOf p (world lane (now (cells .entry))) ⌝ }
 {
-    match tests::opened(cells.len(), lane, p, lane.network.processes) {
+    match call_parts::opened(cells.len(), lane, p, lane.network.processes) {
         Tested::Refused(r) => Picked {
             lane,
             answer: PickAnswer::Refused(r),
@@ -101,13 +46,6 @@ pub fn pick(lane: Lane, cells: &mut [i32], p: usize) -> Picked
 }
 
 // ---- feed and close
-fn not_fed(lane: Lane, r: Refusal) -> Fed
-    ensures { λ f. ⌜ f ≡ record { lane = lane; answer = FeedAnswer.Refused r } ⌝ }
-{
-    let answer = FeedAnswer::Refused(r);
-    Fed { lane, answer }
-}
-
 // A message goes to its cell, or nowhere where the receiver has ended.
 fn store(lane: Lane, cells: &mut [i32], c: usize, v: i32, gone: bool) -> Lane
     requires { ⌜ (c < 32) × (length (now cells) ≡ 8192) × (gone ≡ receiverEnded c (world lane (now cells))) × (gone ≡ false → channelOf lane c .held < channelOf lane c .capacity) ⌝ }
@@ -133,11 +71,11 @@ pub fn feed_there(lane: Lane, cells: &mut [i32], c: usize, v: i32) -> Fed
     let sender = lane.network.sender;
     let channels = lane.channels;
     let h = channels[c];
-    let gone = receiver_ended(lane, c);
-    match tests::offered(sender[c] != 255, h.closed, is_full(h, gone)) {
-        Tested::Refused(r) => not_fed(lane, r),
+    let gone = call_parts::receiver_ended(lane, c);
+    match call_parts::offered(sender[c] != 255, h.closed, call_parts::is_full(h, gone)) {
+        Tested::Refused(r) => call_parts::not_fed(lane, r),
         Tested::Passed => {
-            let l = count(store(lane, cells, c, v, gone));
+            let l = call_parts::count(store(lane, cells, c, v, gone));
             Fed {
                 lane: l,
                 answer: FeedAnswer::Accepted,
@@ -150,8 +88,8 @@ pub fn feed_there(lane: Lane, cells: &mut [i32], c: usize, v: i32) -> Fed
 pub fn feed(lane: Lane, cells: &mut [i32], c: usize, v: i32) -> Fed
     ensures { λ r. ⌜ called (feedTold (r .answer)) (world (r .lane) (now (cells .exit))) ≡ feedOf c v (world lane (now (cells .entry))) ⌝ }
 {
-    match tests::opened(cells.len(), lane, c, lane.network.channels) {
-        Tested::Refused(r) => not_fed(lane, r),
+    match call_parts::opened(cells.len(), lane, c, lane.network.channels) {
+        Tested::Refused(r) => call_parts::not_fed(lane, r),
         Tested::Passed => feed_there(lane, cells, c, v),
     }
 }
@@ -164,13 +102,13 @@ pub fn close_there(lane: Lane, c: usize) -> Fed
     let sender = lane.network.sender;
     let mut channels = lane.channels;
     let h = channels[c];
-    match tests::offered(sender[c] != 255, h.closed, false) {
-        Tested::Refused(r) => not_fed(lane, r),
+    match call_parts::offered(sender[c] != 255, h.closed, false) {
+        Tested::Refused(r) => call_parts::not_fed(lane, r),
         Tested::Passed => {
             channels[c] = h.close();
             let mut shut = lane;
             shut.channels = channels;
-            let counted = count(shut);
+            let counted = call_parts::count(shut);
             Fed {
                 lane: counted,
                 answer: FeedAnswer::Accepted,
@@ -183,34 +121,13 @@ pub fn close_there(lane: Lane, c: usize) -> Fed
 pub fn close(lane: Lane, c: usize) -> Fed
     ensures { λ r. ⌜ ((cells : List ℤ) → called (feedTold (r .answer)) (world (r .lane) cells) ≡ closeOf c (world lane cells)) ⌝ }
 {
-    match tests::opened(8192, lane, c, lane.network.channels) {
-        Tested::Refused(r) => not_fed(lane, r),
+    match call_parts::opened(8192, lane, c, lane.network.channels) {
+        Tested::Refused(r) => call_parts::not_fed(lane, r),
         Tested::Passed => close_there(lane, c),
     }
 }
 
 // ---- take
-fn not_taken(lane: Lane, r: Refusal) -> Taken
-    ensures { λ t. ⌜ t ≡ record { lane = lane; answer = TakeAnswer.Refused r } ⌝ }
-{
-    let answer = TakeAnswer::Refused(r);
-    Taken { lane, answer }
-}
-
-// Nothing is held: the end where the channel is closed, and that is an accepted call; else a refusal.
-fn take_none(lane: Lane, closed: bool) -> Taken
-    ensures { λ r. ⌜ ((cells : List ℤ) → called (takeTold (r .answer)) (world (r .lane) cells) ≡ refuse (not closed) 12 (world lane cells) (called theEnd (counting (world lane cells)))) ⌝ }
-{
-    let over = count(lane);
-    if closed {
-        return Taken {
-            lane: over,
-            answer: TakeAnswer::End,
-        };
-    }
-    not_taken(lane, Refusal::Empty)
-}
-
 // A take at a channel that is there, of a lane that is sound, with its cells. Public for the bench, like a feed there.
 pub fn take_there(lane: Lane, cells: &[i32], c: usize) -> Taken
     requires { ⌜ Opened (length (now cells)) lane c (lane .network .channels) ⌝ }
@@ -220,17 +137,17 @@ pub fn take_there(lane: Lane, cells: &[i32], c: usize) -> Taken
     let mut channels = lane.channels;
     let h = channels[c];
     if receiver[c] != 255 {
-        return not_taken(lane, Refusal::Inside);
+        return call_parts::not_taken(lane, Refusal::Inside);
     }
     if h.held == 0 {
-        return take_none(lane, h.closed);
+        return call_parts::take_none(lane, h.closed);
     }
     let kept = h.get();
     let v = cells[lane_picks::slot(c, h, 0)];
     channels[c] = kept;
     let mut left = lane;
     left.channels = channels;
-    let l = count(left);
+    let l = call_parts::count(left);
     Taken {
         lane: l,
         answer: TakeAnswer::Value(v),
@@ -241,8 +158,8 @@ pub fn take_there(lane: Lane, cells: &[i32], c: usize) -> Taken
 pub fn take(lane: Lane, cells: &[i32], c: usize) -> Taken
     ensures { λ r. ⌜ called (takeTold (r .answer)) (world (r .lane) (now (cells .entry))) ≡ takeOf c (world lane (now (cells .entry))) ⌝ }
 {
-    match tests::opened(cells.len(), lane, c, lane.network.channels) {
-        Tested::Refused(r) => not_taken(lane, r),
+    match call_parts::opened(cells.len(), lane, c, lane.network.channels) {
+        Tested::Refused(r) => call_parts::not_taken(lane, r),
         Tested::Passed => take_there(lane, cells, c),
     }
 }

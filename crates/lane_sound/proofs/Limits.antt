@@ -11,8 +11,8 @@ use lib.Bits.{bitAnd, and-high}
 use lib.Dec.{leb}
 use Rattle.base.specs.Tests.{between}
 use Rattle.base.proofs.Conjunction.{iff, between-true, true-between}
-use Rattle.passing.specs.Words.{clean}
-use Rattle.passing.proofs.Digits.{split-off}
+use Rattle.flags.specs.Clean.{clean}
+use Rattle.flags.proofs.Digits.{split-off}
 
 -- a number of two bytes, whatever stands above it, is clean of the upper one where it is at most 255
 upper : (high d : ℕ) → d < 65536 → clean 0xFF00 (65536 * high + d) ≡ leb d 255

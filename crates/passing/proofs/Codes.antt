@@ -18,7 +18,9 @@ use Rattle.network.specs.declared.Network.{Network}
 use Rattle.network.specs.Code.{instructionAt, fieldsRight, mayBeLast, standsRight}
 use Rattle.network.specs.Rules.{instructionRight, codeOf, instructions}
 use Rattle.network.proofs.Last.{last-after}
-use Rattle.passing.specs.Words.{cleanAt, opcodeWord, channelWord, Placed}
+use Rattle.instruction_sums.specs.Sums.{cleanAt}
+use Rattle.instruction_words.specs.Words.{opcodeWord, channelWord}
+use Rattle.passing.specs.Placed.{Placed}
 use Rattle.passing.proofs.Right.{clean-right}
 
 -- ---- tests in turn of which each is of two parts

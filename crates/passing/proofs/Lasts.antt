@@ -11,7 +11,8 @@ use lib.ListN.{getD, List·getD-eq-default}
 use Rattle.base.specs.Lists.{table}
 use Rattle.base.proofs.Lists.{table-at, length-values}
 use Rattle.network.specs.Code.{mayBeLast}
-use Rattle.passing.specs.Words.{clean, Small}
+use Rattle.flags.specs.Clean.{clean}
+use Rattle.instruction_sums.specs.Sums.{Small}
 
 -- ---- the last opcode
 and-247 : (o : ℕ) → o < 256 → bitAnd o 247 ≡ o / 16 * 16 + o % 8

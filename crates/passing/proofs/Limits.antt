@@ -2,16 +2,15 @@
 -- two digits of a channel's end and a process, that they are one number.
 -- Assumes nothing.
 use mathlib.Core.Path.{_≡_, refl, sym, ap, _∙_}
-use mathlib.Core.Bool.{Bool, true, false, cond, _&&_, and-true, and-false}
-use mathlib.Core.List.{List}
-use Prim.Native.Nat.{ℕ, zero, suc, _+_, _-_, _*_, _≤_, _<_, min}
+use mathlib.Core.Bool.{Bool, false, _&&_, and-true, and-false}
+use Prim.Native.Nat.{ℕ, zero, suc, _+_, _-_, _*_, _≤_, _<_}
 use native.Mathlib.Decide.{decLt}
 use native.Mathlib.Omega.{arith}
 use borrow.Author.Tests.{ltb-true, lt-ltb, le-ltb, eqb-true, eq-eqb, ne-eqb}
 use lib.Dec.{eqb, ltb}
-use lib.ListN.{getD}
 use Rattle.base.proofs.Conjunction.{iff, both-true, true-both}
-use Rattle.passing.specs.Words.{clean, noField, endAt}
+use Rattle.flags.specs.Clean.{clean}
+use Rattle.instruction_words.specs.Words.{noField}
 use Rattle.passing.proofs.Digits.{fieldFlags, clean-field}
 
 -- ---- the fields b and c
@@ -59,22 +58,3 @@ same-end e p h l =
     iff _ _
     (λ t. let b = both-true (ltb (e + (31 - p)) 32) (ltb (31 - e + p) 32) t in eq-eqb e p (omega (arith, ltb-true)))
     (λ t. let q : e ≡ p = eqb-true e p t in true-both _ _ (lt-ltb (e + (31 - p)) 32 (omega arith)) (lt-ltb (31 - e + p) 32 (omega arith)))
-
-module _ (ends : List ℕ) (channels b : ℕ) where
-  pub end-low : endAt ends channels b ≤ 30
-  end-low = go (ltb b channels)
-    where
-      go : (there : Bool) → cond there (min (getD ends b 0) 30) 30 ≤ 30
-      go true = omega arith
-      go false = omega arith
-
-  -- 30 is no process
-  pub end-is : (p : ℕ) → p < 16 → eqb (endAt ends channels b) p ≡ (ltb b channels && eqb (getD ends b 0) p)
-  end-is p h = go (ltb b channels)
-    where
-      go : (there : Bool) → eqb (cond there (min (getD ends b 0) 30) 30) p ≡ (there && eqb (getD ends b 0) p)
-      go true = iff _ _ (omega (arith, eqb-true, eq-eqb)) (omega (arith, eqb-true, eq-eqb))
-      go false = ne-eqb 30 p (omega arith)
-
-  pub end-none : channels ≤ b → endAt ends channels b ≡ 30
-  end-none h = rw (le-ltb b channels h)

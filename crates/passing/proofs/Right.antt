@@ -1,11 +1,11 @@
 -- An instruction's sum is clean of the flags exactly where its fields are right. The sum's digits are the fields, each with what its limit lacks, and
 -- the channel's ends, against the process where the opcode asks for that. Where the opcode asks for a short b and b is not, and where it is none, the top
--- digit is not clean; opcode 1 takes any b. The words of the two tables leave room for the sum.
+-- digit is not clean; opcode 1 takes any b.
 -- Assumes nothing.
 use mathlib.Core.Path.{_≡_, refl, sym, ap, ap₂, _∙_}
-use mathlib.Core.Bool.{Bool, true, false, cond, _&&_, and-true, and-false}
+use mathlib.Core.Bool.{Bool, true, false, _&&_, and-true, and-false}
 use mathlib.Core.List.{List}
-use Prim.Native.Nat.{ℕ, zero, suc, _+_, _-_, _*_, _≤_, _<_, zero-le, suc-le-suc}
+use Prim.Native.Nat.{ℕ, _+_, _-_, _*_, _≤_, _<_}
 use native.Mathlib.Decide.{decLt}
 use native.Mathlib.Omega.{arith}
 use borrow.Author.Tests.{lt-ltb, le-ltb, ne-eqb}
@@ -13,9 +13,12 @@ use lib.Dec.{eqb, ltb}
 use lib.ListN.{getD, List·getD-eq-default}
 use Rattle.network.specs.declared.Instruction.{Instruction}
 use Rattle.network.specs.Code.{register, unnamed, target, threeRegisters, fieldsRight}
-use Rattle.passing.specs.Words.{clean, weighed, flags, room, noField, asked, short, receiving, sending, noOpcode, opcodeWord, longWord, endAt, channelWord}
+use Rattle.flags.specs.Clean.{clean}
+use Rattle.instruction_sums.specs.Sums.{weighed, flags}
+use Rattle.instruction_words.specs.Words.{room, noField, asked, short, receiving, sending, noOpcode, opcodeWord, longWord, endAt, channelWord}
 use Rattle.passing.proofs.Digits.{digits, clean-digits, top-unclean}
-use Rattle.passing.proofs.Limits.{Limit, Added, unnamed-limit, below-limit, register-added, unnamed-added, same-end, end-low, end-is, end-none}
+use Rattle.instruction_words.proofs.Words.{Below, by-number, opcode-none, end-low, end-is, end-none, word, long-low}
+use Rattle.passing.proofs.Limits.{Limit, Added, unnamed-limit, below-limit, register-added, unnamed-added, same-end}
 
 -- ---- three tests
 -- the digits' tests in the order of the fields
@@ -32,39 +35,13 @@ second-fails : (a c : Bool) → (a && false && c) ≡ false
 second-fails false c = refl
 second-fails true c = refl
 
--- ---- by a number
--- a family at each number below k
-abbrev pub Below : ℕ → (ℕ → Type 0) → Type 0
-Below zero P = Unit
-Below (suc k) P = P 0 × Below k (λ n. P (suc n))
-
-pub by-number : (k : ℕ) (P : ℕ → Type 0) → Below k P → (o : ℕ) → (k ≤ o → P o) → P o
-by-number zero P below o rest = rest zero-le
-by-number (suc k) P below zero rest = below .0
-by-number (suc k) P below (suc o) rest = by-number k (λ n. P (suc n)) (below .1) o (λ h. rest (suc-le-suc h))
-
-pub opcode-none : (count p o : ℕ) → 14 ≤ o → opcodeWord count p o ≡ noOpcode
-unfolding opcodeWord
-opcode-none count p o h = rw List·getD-eq-default
-
 fields-none : (count : ℕ) (receives sends : Bool) (i : Instruction) → 14 ≤ i .op → fieldsRight count receives sends i ≡ false
 unfolding fieldsRight
 fields-none count receives sends i h = rw List·getD-eq-default
 
 -- ---- a sum whose opcode has the word w; r and s are the ends of the channel that the field b names
--- what is added for b
-abbrev word : ℕ → ℕ → ℕ → ℕ
-word r s b = cond (ltb b 32) (short + receiving r + sending s + 0xFFFFFF0000 * b) (longWord b)
-
 abbrev sum : ℕ → ℕ → ℕ → Instruction → ℕ
 sum w r s i = weighed i + w + word r s (i .b)
-
-long-low : (b : ℕ) → longWord b ≤ 0x1FF800000
-long-low b = go (ltb b 128)
-  where
-    go : (lower : Bool) → cond lower 0 0x1FF800000 ≤ 0x1FF800000
-    go true = omega arith
-    go false = omega arith
 
 module _ (a b c r s : ℕ) (ha : a < 256) (hb : b < 256) (hc : c < 256) (hr : r ≤ 30) (hs : s ≤ 30) where
   abbrev at : ℕ → Instruction
@@ -266,19 +243,3 @@ clean-right receiver sender channels count p i ho ha hb hc hp low high few =
     (end-low receiver channels (i .b)) (end-low sender channels (i .b)) count p hp low high
     (λ h. end-none receiver channels (i .b) (omega arith)) (λ h. end-none sender channels (i .b) (omega arith)) (i .op) ho
     ∙ ap₂ (λ (x y : Bool). fieldsRight count x y i) (end-is receiver channels (i .b) p hp) (end-is sender channels (i .b) p hp)
-
-pub channel-small : (receiver sender : List ℕ) (channels b : ℕ) → channelWord receiver sender channels b < 0x7000000000000000
-unfolding channelWord
-channel-small receiver sender channels b = go (decLt b 32)
-  where
-    go : Dec (b < 32) → word (endAt receiver channels b) (endAt sender channels b) b < 0x7000000000000000
-    go (yes h) = rw (lt-ltb b 32 h) (omega (arith, end-low receiver channels b, end-low sender channels b))
-    go (no h) = rw (le-ltb b 32 (omega arith)) (omega (arith, long-low b))
-
-opcodes-small : (count p : ℕ) → p < 16 → Below 14 (λ o. opcodeWord count p o < 0x7000000000000000)
-unfolding opcodeWord
-opcodes-small count p h = omega arith
-
-pub opcode-small : (count p o : ℕ) → p < 16 → opcodeWord count p o < 0x7000000000000000
-opcode-small count p o h =
-    by-number 14 (λ n. opcodeWord count p n < 0x7000000000000000) (opcodes-small count p h) o (λ l. rw (opcode-none count p o l) (omega arith))

@@ -10,7 +10,7 @@ use mir.Syntax.{w32}
 use mathlib.Core.Logic.{⊎-elim}
 use Rattle.lane.specs.State.{world}
 use Rattle.lane.specs.Calls.{called, feedTold, feedOf}
-use Rattle.lane_calls.specs.Tests.{Opened}
+use Rattle.call_parts.specs.Tests.{Opened}
 use Rattle.lane_calls.proofs.TestLaws.{below}
 use Rattle.lane.proofs.CallLaws.{unchanged}
 use Rattle.bench_rules.specs.Input.{valueAt}

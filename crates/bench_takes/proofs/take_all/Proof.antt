@@ -8,7 +8,7 @@ use borrow.Author.Needs.{needs}
 use lib.ListN.{length}
 use Rattle.lane.specs.State.{world}
 use Rattle.lane.proofs.CallLaws.{unchanged}
-use Rattle.lane_calls.specs.Tests.{Opened}
+use Rattle.call_parts.specs.Tests.{Opened}
 use Rattle.lane_calls.proofs.TestLaws.{below}
 use Rattle.bench_rules.specs.Emptying.{outputs, emptiesFrom, empties}
 use Rattle.bench_rules.proofs.Underway.{begun, same-long, finished}

@@ -7,7 +7,7 @@ use mir.Facts.{toZ-ofZ}
 use Rattle.process.specs.Execute.{full}
 use Rattle.lane.specs.State.{World, world, channelOf}
 use Rattle.lane.specs.Calls.{called, accepted, counting, senderInside, isClosed, receiverEnded}
-use Rattle.lane_calls.specs.Tests.{offered}
+use Rattle.call_parts.specs.Tests.{offered}
 use Rattle.lane_calls.proofs.TestLaws.{offered-says, feed-offered, below, channel, room}
 use Rattle.lane_calls.proofs.feed_there.Statement.{statement}
 use Rattle.lane_calls.proofs.feed_there.Tie as tie

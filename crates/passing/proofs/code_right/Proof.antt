@@ -13,11 +13,13 @@ use Rattle.base.specs.Lists.{table}
 use Rattle.base.specs.Tests.{firstBad, isGood}
 use Rattle.network.specs.declared.Network.{Network}
 use Rattle.network.specs.Rules.{instructions}
-use Rattle.passing.specs.Words.{clean, flags, cleanAt, opcodeWord}
-use Rattle.passing.proofs.Clean.{Tells, laid, one, none}
+use Rattle.flags.specs.Clean.{clean}
+use Rattle.instruction_sums.specs.Sums.{flags, cleanAt}
+use Rattle.instruction_words.specs.Words.{opcodeWord}
+use Rattle.flags.proofs.Clean.{Tells, laid, one, none}
 use Rattle.passing.proofs.Codes.{allRight, lastRight, sums-clean, of-all}
 use Rattle.passing.proofs.Lasts.{clean-last, table-small}
-use Rattle.passing.proofs.Right.{opcode-small, channel-small}
+use Rattle.instruction_words.proofs.Words.{opcode-small, channel-small}
 use Rattle.passing.proofs.code_right.Statement.{statement}
 use Rattle.passing.proofs.code_right.Tie as tie
 

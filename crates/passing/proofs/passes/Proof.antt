@@ -15,7 +15,7 @@ use Rattle.network.specs.declared.Network.{Network}
 use Rattle.network.specs.Rules.{slots, total, records, unusedSlots, unusedRecords, unusedCode, instructions, passes}
 use Rattle.network.proofs.Slot.{right-at, ends-within}
 use Rattle.network.proofs.Passed.{Passed, passed-back, refused, total-positive}
-use Rattle.passing.specs.Words.{Placed}
+use Rattle.passing.specs.Placed.{Placed}
 use Rattle.passing.proofs.passes.Statement.{statement}
 use Rattle.passing.proofs.passes.Tie as tie
 

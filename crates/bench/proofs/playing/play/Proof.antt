@@ -17,7 +17,7 @@ use Rattle.listing.specs.Written.{written}
 use Rattle.bench_rules.specs.Input.{leftAt}
 use Rattle.bench_rules.specs.Playing.{Bench, bench, plays, start}
 use Rattle.bench_rules.proofs.Underway.{begun, same-long}
-use Rattle.bench.specs.Parts.{held}
+use Rattle.bench_turns.specs.Turns.{held}
 use Rattle.bench.proofs.Kept.{start-ready, all-named}
 use Rattle.bench.proofs.Stages.{start-is, Partway, room-for-byte, after-byte, no-byte-left}
 use Rattle.bench.proofs.playing.play.Statement.{statement}

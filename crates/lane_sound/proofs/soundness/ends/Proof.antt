@@ -14,7 +14,7 @@ use Rattle.base.specs.Tests.{inTurn, firstBad, isGood}
 use Rattle.base.proofs.Lists.{table-at}
 use Rattle.process.specs.declared.Channel.{Channel}
 use Rattle.process.specs.Channels.{noChannel}
-use Rattle.passing.proofs.Clean.{one-on}
+use Rattle.flags.proofs.Clean.{one-on}
 use Rattle.lane_sound.proofs.soundness.ends.Statement.{statement}
 use Rattle.lane_sound.proofs.soundness.ends.Tie as tie
 

@@ -7,7 +7,7 @@ use native.Mathlib.Nat.{mod-eq-of-lt}
 use borrow.Author.Needs.{needs}
 use lib.Bits.{bitAnd, bitOr, and-comm, and-mask}
 use lib.Dec.{eqb}
-use Rattle.passing.proofs.Clean.{or-zero}
+use Rattle.flags.proofs.Clean.{or-zero}
 use Rattle.lane_sound.proofs.soundness.left.Statement.{statement}
 use Rattle.lane_sound.proofs.soundness.left.Tie as tie
 

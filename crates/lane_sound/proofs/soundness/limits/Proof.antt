@@ -15,8 +15,8 @@ use Rattle.base.specs.Tests.{inTurn, firstBad, isGood, between}
 use Rattle.process.specs.declared.Channel.{Channel}
 use Rattle.process.specs.Channels.{noChannel}
 use Rattle.lane.specs.Sound.{channelSound}
-use Rattle.passing.specs.Words.{clean}
-use Rattle.passing.proofs.Clean.{Tells, laid, one}
+use Rattle.flags.specs.Clean.{clean}
+use Rattle.flags.proofs.Clean.{Tells, laid, one}
 use Rattle.lane_sound.proofs.Limits.{places-clean, filling-clean}
 use Rattle.lane_sound.proofs.Parts.{two-kinds}
 use Rattle.lane_sound.proofs.soundness.limits.Statement.{statement}

@@ -16,7 +16,7 @@ use Rattle.base.specs.Tests.{inTurn, firstBad, isGood}
 use Rattle.base.proofs.Lists.{Filled, filled-none, filled-more, table-is}
 use Rattle.lane.specs.declared.Standing.{Standing}
 use Rattle.lane.specs.State.{noStanding, isEnded}
-use Rattle.passing.proofs.Clean.{one-on, unless-zero}
+use Rattle.flags.proofs.Clean.{one-on, unless-zero}
 use Rattle.lane_sound.proofs.soundness.standings.Statement.{statement}
 use Rattle.lane_sound.proofs.soundness.standings.Tie as tie
 

@@ -1,0 +1,17 @@
+-- `slots_and_records::slot_right` meets its contract: each return rewrites by the tests that led there.
+-- Assumes nothing.
+use borrow.Author.Tests.{eq-eqb, ne-eqb, le-leb, lt-leb}
+use Rattle.slots_and_records.proofs.slot_right.Statement.{statement}
+use Rattle.slots_and_records.proofs.slot_right.Tie as tie
+
+returns : tie.Need-returns
+returns c = rw (ne-eqb _ _ (c .if1 .taken))
+
+returns-2 : tie.Need-returns-2
+returns-2 c = rw (eq-eqb _ _ (c .before .if1 .left), lt-leb _ _ (c .if2 .taken))
+
+returns-3 : tie.Need-returns-3
+returns-3 c = rw (eq-eqb _ _ (c .before .if1 .left), le-leb _ _ (c .if2 .left))
+
+pub slot-right-spec : {M : Type 1} → statement M
+slot-right-spec = tie.close (tie.spec returns returns-2 returns-3)
