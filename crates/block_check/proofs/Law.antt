@@ -42,7 +42,7 @@ flat-lt : (c : ℕ) → c < 65536 → flat c < 65536
 unfolding flat
 flat-lt c h = xor-lt 16 (c * 2 % 65536) (c / 32768 * 4129) (omega arith) (omega arith)
 
-bit-lt : (c : ℕ) → c < 65536 → bit c < 65536
+pub bit-lt : (c : ℕ) → c < 65536 → bit c < 65536
 bit-lt c h = rw (bit-flat c h) (flat-lt c h)
 
 poly-xor : (x y : ℕ) → x < 2 → y < 2 → bitXor x y * 4129 ≡ bitXor (x * 4129) (y * 4129)

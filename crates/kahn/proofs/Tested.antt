@@ -1,4 +1,4 @@
--- Computed tests of files, and the rules that they show: a list is bytes, two lists are alike.
+-- Computed tests of files, and the rules that they show: a list is the file of a network, two lists are alike.
 -- Assumes nothing.
 use mathlib.Core.Path.{_≡_, refl, ap}
 use mathlib.Core.Logic.{inl, inr}
@@ -14,20 +14,10 @@ use Rattle.network.specs.declared.Network.{Network}
 use Rattle.network.specs.Rules.{passes}
 use Rattle.base.proofs.Conjunction.{both-true}
 use Rattle.lane_file.specs.File.{fileOf}
-use Rattle.lane_file.specs.Read.{Bytes}
+use Rattle.lane_file.proofs.InBytes.{allBytes, bytes-by}
 use Rattle.lane_file.proofs.RoundTrip.{Shaped, read-written}
 use Rattle.kahn.specs.Boards.{MayDiffer, Alike}
 use Rattle.kahn.specs.Theorem.{ReadAs}
-
--- ---- bytes
-abbrev pub allBytes : List ℕ → Bool
-allBytes [] = true
-allBytes (b ∷ bs) = ltb b 256 && allBytes bs
-
-bytes-by : (f : List ℕ) → allBytes f ≡ true → Bytes f
-bytes-by [] e k = omega arith
-bytes-by (b ∷ bs) e zero = ltb-true b 256 (both-true (ltb b 256) (allBytes bs) e .0)
-bytes-by (b ∷ bs) e (suc k) = bytes-by bs (both-true (ltb b 256) (allBytes bs) e .1) k
 
 -- ---- alike: a byte of a capacity, or of block 0's check
 abbrev ofCapacity : ℕ → Bool

@@ -17,6 +17,7 @@ use Rattle.lane.specs.Calls.{moved, waitingEmpty, waitingFull, ended, accepted,
 use Rattle.relief.specs.Relief as relief
 use Rattle.lane_file.specs.File.{fileOf}
 use Rattle.lane_file.proofs.RoundTrip.{Shaped}
+use Rattle.lane_file.proofs.Witness.{program, withCapacity as sample, shaped}
 use Rattle.kahn.specs.Plain.{fromOutside, withoutCapacities, plainAfter}
 use Rattle.kahn.specs.Calls.{Call, pick, feed, close, take, relieve, told, relieved, after, taken, sent, movedIn}
 use Rattle.kahn.specs.Boards.{board, Fair, AtRest, Alike, AgreeWith}
@@ -32,41 +33,22 @@ one-process : (P : ℕ → Type 0) → P 0 → (p : ℕ) → p < 1 → P p
 one-process P h zero l = h
 one-process P h (suc p) l = absurd (omega arith)
 
--- ==== document 01's sample lane: one process, channel 0 in, 1 out; each message is doubled
-abbrev doubles : List ℕ
-doubles = 11 ∷ 0 ∷ 0 ∷ 4 ∷ 3 ∷ 0 ∷ 0 ∷ 0 ∷ 12 ∷ 0 ∷ 1 ∷ 0 ∷ 8 ∷ 0 ∷ 0 ∷ 0 ∷ 0 ∷ 0 ∷ 0 ∷ 0 ∷ []
-
-abbrev sample : ℕ → Network
-sample capacity =
-    record {
-      processes = 1;
-      channels = 2;
-      first = replicate 16 0;
-      count = 5 ∷ replicate 15 0;
-      sender = 255 ∷ 0 ∷ replicate 30 0;
-      receiver = 0 ∷ 255 ∷ replicate 30 0;
-      capacity = capacity ∷ capacity ∷ replicate 30 0;
-      code = doubles ++ replicate 4044 0;
-    }
-
-sample-shaped : (k : ℕ) → Shaped (sample k)
-sample-shaped k = record { first = refl; count = refl; sender = refl; receiver = refl; capacity = refl; code = refl }
-
+-- ==== document 01's sample lane, with capacities 1 and 2: one process, channel 0 in, 1 out; each message is doubled
 pass₁ : passes (sample 1) ≡ true
 unfolding tests
-pass₁ = passes-by (sample 1) doubles 4044 refl (omega arith) refl
+pass₁ = passes-by (sample 1) program 4044 refl (omega arith) refl
 
 pass₂ : passes (sample 2) ≡ true
 unfolding tests
-pass₂ = passes-by (sample 2) doubles 4044 refl (omega arith) refl
+pass₂ = passes-by (sample 2) program 4044 refl (omega arith) refl
 
 read₁ : ReadAs (fileOf (sample 1)) (sample 1)
 unfolding files
-read₁ = read-by (sample 1) (sample-shaped 1) pass₁ refl
+read₁ = read-by (sample 1) (shaped 1) pass₁ refl
 
 read₂ : ReadAs (fileOf (sample 2)) (sample 2)
 unfolding files
-read₂ = read-by (sample 2) (sample-shaped 2) pass₂ refl
+read₂ = read-by (sample 2) (shaped 2) pass₂ refl
 
 alike : Alike (fileOf (sample 1)) (fileOf (sample 2))
 unfolding files

@@ -8,14 +8,10 @@ use lib.ListN.{length}
 use lib.IntN.{ℤ}
 use Rattle.network.specs.declared.Network.{Network}
 use Rattle.lane.specs.State.{World}
-use Rattle.lane_file.specs.Read.{Bytes, accepted, readOf}
+pub use Rattle.lane_file.specs.RoundTrip.{ReadAs}
 use Rattle.kahn.specs.Plain.{withoutCapacities, plainAfter}
 use Rattle.kahn.specs.Calls.{Call, movedIn}
 use Rattle.kahn.specs.Boards.{board, Fair, AtRest, Alike, SendsPrefix, Agrees, AgreeWith}
-
--- a list of bytes is read as a network
-abbrev pub ReadAs : List ℕ → Network → Type 0
-ReadAs f n = Bytes f × (readOf f ≡ record { answer = accepted; network = n })
 
 -- what holds of one board
 pub record Holds (n : Network) (input : ℕ → List ℤ) (calls : List Call) (w : World) : Type 0 where

@@ -1,12 +1,12 @@
--- The file of a network that passes the file's rules is a list of bytes, where the network's code is one.
+-- Lists of bytes: a test of one that is computed; and the file of a network that passes the file's rules, where the network's code is one.
 -- Assumes nothing.
 use mathlib.Core.Path.{_≡_, refl}
-use mathlib.Core.Bool.{Bool, true, false, cond, not, _&&_, _||_}
+use mathlib.Core.Bool.{Bool, true, false, not, _&&_, _||_}
 use mathlib.Core.List.{List, [], _∷_, _++_}
 use Prim.Native.Nat.{ℕ, zero, suc, _+_, _-_, _*_, _≤_, _<_}
 use native.Mathlib.Decide.{decLt}
 use native.Mathlib.Omega.{arith}
-use borrow.Author.Tests.{ltb-true, ltb-false, eqb-true}
+use borrow.Author.Tests.{ltb-true, eqb-true}
 use lib.Bits.{bitXor, xor-lt}
 use lib.Dec.{ltb, eqb}
 use lib.ListN.{length, getD, take, drop, List·getD-eq-default}
@@ -16,6 +16,7 @@ use Rattle.base.specs.Tests.{between}
 use Rattle.base.proofs.Conjunction.{both-true, between-true}
 use Rattle.base.proofs.Tests.{each-true}
 use Rattle.block_check.specs.Crc.{bit, bits, byte, from, crc}
+use Rattle.block_check.proofs.Law.{bit-lt}
 use Rattle.network.specs.declared.Network.{Network}
 use Rattle.network.specs.Rules.{startOf, countOf, senderOf, receiverOf, capacityOf, outside, endRight, endsRight, recordRight, records}
 use Rattle.network.proofs.Passed.{Passed}
@@ -26,14 +27,17 @@ use Rattle.lane_file.proofs.Accepts.{slot-zero, record-zero}
 use Rattle.lane_file.proofs.Joined.{length-part}
 use Rattle.lane_file.proofs.Places.{blocksOf, Holds, first-places, body-places, all-places}
 
--- ---- the check of a list of bytes is a number of two
-bit-lt : (c : ℕ) → c < 65536 → bit c < 65536
-bit-lt c h = go (ltb c 32768) refl
-  where
-    go : (t : Bool) → ltb c 32768 ≡ t → cond t (c * 2) (bitXor (c * 2 - 65536) 0x1021) < 65536
-    go true e = omega (arith, ltb-true c 32768 e)
-    go false e = xor-lt 16 (c * 2 - 65536) 0x1021 (omega (arith, ltb-false c 32768 e)) (omega arith)
+-- ---- a list is bytes: a test that is computed
+abbrev pub allBytes : List ℕ → Bool
+allBytes [] = true
+allBytes (b ∷ bs) = ltb b 256 && allBytes bs
 
+pub bytes-by : (l : List ℕ) → allBytes l ≡ true → Bytes l
+bytes-by [] e k = omega arith
+bytes-by (b ∷ bs) e zero = ltb-true b 256 (both-true (ltb b 256) (allBytes bs) e .0)
+bytes-by (b ∷ bs) e (suc k) = bytes-by bs (both-true (ltb b 256) (allBytes bs) e .1) k
+
+-- ---- the check of a list of bytes is a number of two
 bits-lt : (n c : ℕ) → c < 65536 → bits n c < 65536
 bits-lt zero c h = h
 bits-lt (suc n) c h = bits-lt n (bit c) (bit-lt c h)

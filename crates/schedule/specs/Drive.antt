@@ -1,11 +1,9 @@
 -- Document 01, "Driver": "With a number of picks: while at least P are left, pick 0 to P−1 in turn. After a round without a move, relieve. Refusal 13
 -- ends it as settled, 14 as ceiling; fewer than P left ends it as spent. It answers picks and enlargements made."
 -- Assumes nothing.
-use mathlib.Core.Bool.{Bool, true, false, cond}
-use mathlib.Core.List.{List}
+use mathlib.Core.Bool.{cond}
 use Prim.Native.Nat.{ℕ, zero, suc, _+_, _*_, _/_}
 use lib.Dec.{eqb}
-use lib.ListN.{length}
 use Rattle.base.specs.Refusals.{numberOf}
 use Rattle.lane.specs.State.{World}
 use Rattle.lane.specs.Calls.{cellsWrong, unsound}

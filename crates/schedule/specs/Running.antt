@@ -1,10 +1,8 @@
 -- Picks and reliefs one after the other, as a run and the driver make them: the lane and cells, how many picks moved, how many reliefs enlarged.
 -- Assumes nothing.
 use mathlib.Core.Bool.{Bool, true, false, cond}
-use mathlib.Core.List.{List, [], _∷_}
 use Prim.Native.Nat.{ℕ, _+_}
 use lib.ListN.{replicate}
-use Rattle.lane.specs.declared.Lane.{Lane}
 use Rattle.lane.specs.State.{World, world}
 use Rattle.lane.specs.Pick.{stepFor, pickIn, hasMoved}
 use Rattle.relief.specs.Relief.{Told, enlarged, refused, relieveOf}
