@@ -1,6 +1,8 @@
-//! A second implementation of the lane run-time, written from the scope
-//! document alone. It exists to be compared with the first one, and to say how
-//! many instructions the same work takes in ordinary Rust.
+//! A second implementation of the lane run-time, written from documents alone:
+//! the scope document, the decisions on its open points (docs/DECISIONS.md) and
+//! the page on scripts (docs/SCRIPTS.md). It exists to be compared with the
+//! first one, and to say how many instructions the same work takes in ordinary
+//! Rust.
 //!
 //! | module     | what it holds                                              |
 //! |------------|------------------------------------------------------------|
@@ -13,6 +15,8 @@
 //! | `relief`   | rings of waiting processes                                 |
 //! | `schedule` | a run and the driver                                       |
 //! | `bench`    | the bench and its listing                                  |
+//! | `script`   | the lines of a script of calls                             |
+//! | `replay`   | replaying such a script                                    |
 //! | `plain`    | the plain order, with channels that never fill             |
 //! | `random`   | random numbers that can be repeated                        |
 //! | `plans`    | random networks                                            |
@@ -36,4 +40,6 @@ pub mod programs;
 pub mod random;
 pub mod refusal;
 pub mod relief;
+pub mod replay;
 pub mod schedule;
+pub mod script;
