@@ -18,6 +18,12 @@ pub struct Coverage {
     lines: [(u64, u64); 3],
     /// The same for the conditions in `proc` lines.
     conditions: [(u64, u64); 5],
+    pub picks: Picks,
+}
+
+/// What picks and reliefs did.
+#[derive(Default)]
+pub struct Picks {
     /// Instructions that moved, by number.
     moved: [u64; 14],
     answers: [u64; 4],
@@ -27,6 +33,8 @@ pub struct Coverage {
     now: Option<(Instruction, [bool; SPECIAL.len()])>,
 }
 
+/// The refusals that a bench can answer.
+const REFUSED: [usize; 10] = [1, 2, 3, 4, 5, 6, 7, 8, 15, 17];
 const LINES: [&str; 3] = ["out ", "end ", "grow "];
 const CONDITIONS: [&str; 5] = ["stop", "fault", "empty", "full", "run"];
 const ANSWERS: [&str; 4] = ["moved", "waiting-empty", "waiting-full", "ended"];
@@ -76,9 +84,45 @@ impl Coverage {
             *total = (total.0 + count.min(1), total.1 + count);
         }
     }
+
+    /// What was not met, each by its name.
+    pub fn missing(&self) -> Vec<String> {
+        let refused =
+            REFUSED.iter().map(|&number| (format!("refusal {number}"), self.refused[number]));
+        let lines = LINES
+            .iter()
+            .zip(self.lines)
+            .map(|(name, (lanes, _))| (format!("a line {name}"), lanes));
+        let conditions = CONDITIONS
+            .iter()
+            .zip(self.conditions)
+            .map(|(name, (lanes, _))| (format!("condition {name}"), lanes));
+        let mut missing = names_of_none(refused.chain(lines).chain(conditions));
+        missing.extend(self.picks.missing());
+        missing
+    }
 }
 
-impl Watch for Coverage {
+/// The names of what was met no time.
+pub fn names_of_none(counts: impl Iterator<Item = (String, u64)>) -> Vec<String> {
+    counts.filter(|&(_, count)| count == 0).map(|(name, _)| name).collect()
+}
+
+impl Picks {
+    /// What was not met, each by its name.
+    pub fn missing(&self) -> Vec<String> {
+        let moved = (0..)
+            .zip(self.moved)
+            .map(|(op, count): (u8, u64)| (format!("a move by op {op}"), count));
+        let answers =
+            ANSWERS.iter().zip(self.answers).map(|(name, count)| (format!("answer {name}"), count));
+        let special =
+            SPECIAL.iter().zip(self.special).map(|(name, count)| (name.to_string(), count));
+        names_of_none(moved.chain(answers).chain(special))
+    }
+}
+
+impl Watch for Picks {
     fn picking(&mut self, lane: &Lane, process: usize) {
         let instruction = lane.instruction(process);
         let Instruction { op, b, c, .. } = instruction;
@@ -153,7 +197,13 @@ impl fmt::Display for Coverage {
         for (name, (lanes, lines)) in CONDITIONS.iter().zip(self.conditions) {
             write!(to, "  {name}: {lanes} ({lines})")?;
         }
-        write!(to, "\ninstructions that moved")?;
+        write!(to, "\n{}", self.picks)
+    }
+}
+
+impl fmt::Display for Picks {
+    fn fmt(&self, to: &mut fmt::Formatter) -> fmt::Result {
+        write!(to, "instructions that moved")?;
         for (number, count) in self.moved.iter().enumerate() {
             write!(to, "  {number}: {count}")?;
         }

@@ -26,7 +26,7 @@ fn every_refusal_of_the_bench_is_met() {
         let case = case(seed);
         let mut listing = vec![0; case.listing];
         let answer =
-            bench_watched(&case.file, &case.input, &case.picks, &mut listing, &mut coverage);
+            bench_watched(&case.file, &case.input, &case.picks, &mut listing, &mut coverage.picks);
         coverage.count(answer.map(|length| &listing[..length]));
         *answers.entry(answer.err().map(|refusal| refusal.number())).or_insert(0) += 1;
         assert!(answer.is_ok() || case.listing < LISTING || !listing.iter().any(|&byte| byte != 0));
