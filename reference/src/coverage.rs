@@ -87,38 +87,35 @@ impl Coverage {
 
     /// What was not met, each by its name.
     pub fn missing(&self) -> Vec<String> {
-        let refused =
-            REFUSED.iter().map(|&number| (format!("refusal {number}"), self.refused[number]));
-        let lines = LINES
-            .iter()
-            .zip(self.lines)
-            .map(|(name, (lanes, _))| (format!("a line {name}"), lanes));
-        let conditions = CONDITIONS
-            .iter()
-            .zip(self.conditions)
-            .map(|(name, (lanes, _))| (format!("condition {name}"), lanes));
-        let mut missing = names_of_none(refused.chain(lines).chain(conditions));
-        missing.extend(self.picks.missing());
-        missing
+        let refused = REFUSED.map(|number| (format!("refusal {number}"), self.refused[number]));
+        let named = |kind: &str, names: &[&str], lanes: &[(u64, u64)]| -> Vec<Counted> {
+            let counts = names.iter().zip(lanes);
+            counts.map(|(name, &(lanes, _))| (format!("{kind} {name}"), lanes)).collect()
+        };
+        let lines = named("a line", &LINES, &self.lines);
+        let conditions = named("condition", &CONDITIONS, &self.conditions);
+        names_of_none([&refused[..], &lines, &conditions, &self.picks.counts()].concat())
     }
 }
 
+/// A kind of case by its name, and how often it was met.
+pub type Counted = (String, u64);
+
 /// The names of what was met no time.
-pub fn names_of_none(counts: impl Iterator<Item = (String, u64)>) -> Vec<String> {
-    counts.filter(|&(_, count)| count == 0).map(|(name, _)| name).collect()
+pub fn names_of_none(counts: Vec<Counted>) -> Vec<String> {
+    counts.into_iter().filter(|&(_, count)| count == 0).map(|(name, _)| name).collect()
 }
 
 impl Picks {
-    /// What was not met, each by its name.
-    pub fn missing(&self) -> Vec<String> {
-        let moved = (0..)
-            .zip(self.moved)
-            .map(|(op, count): (u8, u64)| (format!("a move by op {op}"), count));
-        let answers =
-            ANSWERS.iter().zip(self.answers).map(|(name, count)| (format!("answer {name}"), count));
-        let special =
-            SPECIAL.iter().zip(self.special).map(|(name, count)| (name.to_string(), count));
-        names_of_none(moved.chain(answers).chain(special))
+    /// All that is counted.
+    pub fn counts(&self) -> Vec<Counted> {
+        let moved = self.moved.iter().enumerate();
+        let moved = moved.map(|(op, &count)| (format!("a move by op {op}"), count));
+        let answers = ANSWERS.iter().zip(self.answers);
+        let answers = answers.map(|(name, count)| (format!("a pick {name}"), count));
+        let special = SPECIAL.iter().zip(self.special);
+        let special = special.map(|(name, count)| (name.to_string(), count));
+        moved.chain(answers).chain(special).collect()
     }
 }
 
@@ -197,21 +194,15 @@ impl fmt::Display for Coverage {
         for (name, (lanes, lines)) in CONDITIONS.iter().zip(self.conditions) {
             write!(to, "  {name}: {lanes} ({lines})")?;
         }
-        write!(to, "\n{}", self.picks)
-    }
-}
-
-impl fmt::Display for Picks {
-    fn fmt(&self, to: &mut fmt::Formatter) -> fmt::Result {
-        write!(to, "instructions that moved")?;
-        for (number, count) in self.moved.iter().enumerate() {
+        write!(to, "\ninstructions that moved")?;
+        for (number, count) in self.picks.moved.iter().enumerate() {
             write!(to, "  {number}: {count}")?;
         }
         write!(to, "\npicks")?;
-        for (name, count) in ANSWERS.iter().zip(self.answers) {
+        for (name, count) in ANSWERS.iter().zip(self.picks.answers) {
             write!(to, "  {name}: {count}")?;
         }
-        for (name, count) in SPECIAL.iter().zip(self.special) {
+        for (name, count) in SPECIAL.iter().zip(self.picks.special) {
             write!(to, "\n{name}: {count}")?;
         }
         writeln!(to)

@@ -24,16 +24,23 @@
 //! | `gen`      | random cases for the bench                                 |
 //! | `damage`   | damaged files, inputs and picks                            |
 //! | `coverage` | what a comparison has met                                  |
+//! | `scripts`  | random scripts of calls                                    |
+//! | `clauses`  | edits that make a lane unsound, for each clause of that    |
+//! | `odd`      | edits after which it is sound, but odd                     |
+//! | `met`      | what scripts have met                                      |
 
 pub mod bench;
 pub mod calls;
 pub mod check;
+pub mod clauses;
 pub mod coverage;
 pub mod damage;
 pub mod file;
 pub mod gen;
 pub mod lane;
+pub mod met;
 pub mod network;
+pub mod odd;
 pub mod plain;
 pub mod plans;
 pub mod programs;
@@ -43,3 +50,4 @@ pub mod relief;
 pub mod replay;
 pub mod schedule;
 pub mod script;
+pub mod scripts;

@@ -90,14 +90,14 @@ impl Replay {
         Ok(())
     }
 
-    /// The bytes of a lane file, none where it cannot be read.
+    /// The bytes of a lane file, none where it cannot be read to the end.
     fn bytes_of(&self, name: &[u8]) -> Vec<u8> {
-        let mut bytes = Vec::new();
-        if let Ok(file) = File::open(self.folder.join(path(name))) {
-            // What was read before it went wrong is what there is.
-            let _ = file.take(FILE).read_to_end(&mut bytes);
-        }
-        bytes
+        let read = || -> io::Result<Vec<u8>> {
+            let mut bytes = Vec::new();
+            File::open(self.folder.join(path(name)))?.take(FILE).read_to_end(&mut bytes)?;
+            Ok(bytes)
+        };
+        read().unwrap_or_default()
     }
 }
 
@@ -175,29 +175,9 @@ impl State {
 
     /// Changes one thing by hand.
     pub fn edit(&mut self, edit: Edit) {
-        let State { lane, cells } = self;
         match edit {
-            // More than 255 are held as 255: neither is a number of processes or
-            // channels that a file can have, so no call does anything with them.
-            Edit::Network { processes, channels } => {
-                lane.network.processes = processes.try_into().unwrap_or(u8::MAX);
-                lane.network.channels = channels.try_into().unwrap_or(u8::MAX);
-            }
-            Edit::Slot(number, slot) => lane.network.slots[number] = slot,
-            Edit::Record(number, record) => lane.network.records[number] = record,
-            Edit::Byte(place, byte) => {
-                *field(&mut lane.network.code[place / 4], place % 4) = byte;
-            }
-            Edit::Process { number, position, condition, moves } => {
-                let process = &mut lane.processes[number];
-                *process = Process { position, condition, moves, ..*process };
-            }
-            Edit::Register(number, value) => {
-                lane.processes[number / REGISTERS].registers[number % REGISTERS] = value;
-            }
-            Edit::Channel(number, channel) => lane.channels[number] = channel,
-            Edit::Cell(number, value) => cells[number] = value,
-            Edit::Accepted(count) => lane.accepted = count,
+            Edit::Cell(number, value) => self.cells[number] = value,
+            edit => self.lane.edit(edit),
         }
     }
 
@@ -235,8 +215,37 @@ impl State {
     }
 }
 
+impl Lane {
+    /// Changes one thing by hand. A cell is none of the lane's.
+    pub fn edit(&mut self, edit: Edit) {
+        match edit {
+            // More than 255 are held as 255: neither is a number of processes or
+            // channels that a file can have, so no call does anything with them.
+            Edit::Network { processes, channels } => {
+                self.network.processes = processes.try_into().unwrap_or(u8::MAX);
+                self.network.channels = channels.try_into().unwrap_or(u8::MAX);
+            }
+            Edit::Slot(number, slot) => self.network.slots[number] = slot,
+            Edit::Record(number, record) => self.network.records[number] = record,
+            Edit::Byte(place, byte) => {
+                *field(&mut self.network.code[place / 4], place % 4) = byte;
+            }
+            Edit::Process { number, position, condition, moves } => {
+                let process = &mut self.processes[number];
+                *process = Process { position, condition, moves, ..*process };
+            }
+            Edit::Register(number, value) => {
+                self.processes[number / REGISTERS].registers[number % REGISTERS] = value;
+            }
+            Edit::Channel(number, channel) => self.channels[number] = channel,
+            Edit::Accepted(count) => self.accepted = count,
+            Edit::Cell(..) => {}
+        }
+    }
+}
+
 /// One of the four bytes of an instruction.
-pub fn field(instruction: &mut Instruction, number: usize) -> &mut u8 {
+fn field(instruction: &mut Instruction, number: usize) -> &mut u8 {
     let Instruction { op, a, b, c } = instruction;
     [op, a, b, c][number]
 }
