@@ -91,11 +91,9 @@ fn scripts_do_not_hang_on_one_another() {
 #[test]
 fn scripts_meet_every_case() {
     let folder = folder("cases");
-    for seed in [1, 2] {
-        let mut scripts = Scripts::new(seed, &folder);
-        for _ in 0..1_000 {
-            scripts.script().unwrap();
-        }
-        assert_eq!(scripts.missing(), Vec::<String>::new());
+    let mut scripts = Scripts::new(2, &folder);
+    for _ in 0..1_000 {
+        scripts.script().unwrap();
     }
+    assert_eq!(scripts.missing(), Vec::<String>::new());
 }

@@ -266,6 +266,23 @@ fn the_last_line_may_lack_its_newline() {
     assert_eq!(printed(&folder, "show\npick 0\n"), "show\npick 0: refused 16\n");
 }
 
+/// The program reads 1,048,576 bytes and no more, in the folder it is in.
+#[test]
+fn the_program_reads_so_much() {
+    let folder = folder("program", &[("sample.bin", bytes_of(&sample()))]);
+    let start = "lane sample.bin\npick 0\n";
+    let note = "#".repeat(1_048_576 - start.len() - 4);
+    std::fs::write(folder.join("script"), format!("{start}{note}\nlane sample.bin\n")).unwrap();
+    let output = std::process::Command::new(env!("CARGO_BIN_EXE_replay"))
+        .stdin(std::fs::File::open(folder.join("script")).unwrap())
+        .current_dir(&folder)
+        .output()
+        .unwrap();
+    assert!(output.status.success());
+    let expected = format!("lane sample.bin\npick 0: waiting-empty 0\n{note}\nlan: bad line\n");
+    assert!(output.stdout == expected.as_bytes());
+}
+
 /// The lane of the sample listing, call by call.
 #[test]
 fn picks_feeds_and_takes() {
