@@ -1,11 +1,13 @@
 #!/usr/bin/env python3
-"""Writes the files of the example lanes: net.bin, in.bin and picks.bin of each folder beside this script.
+"""Writes the files of the example lanes: net.bin, in.bin and picks.bin of each folder beside this script. With --check nothing is written: the
+stored files must be the ones that would be.
 
 A lane is written here as its processes, each a list of instructions (op, a, b, c), its channels, each (sender, receiver, capacity) with None
 for the outside, its input, each (channel, value), and its pick bytes. The listings were worked out from the rules by hand.
 """
 import pathlib
 import struct
+import sys
 
 STOP, SET, COPY, ADD, SUB, MUL, DIV, REM, JUMP, JZERO, JNEG, RECV, SEND, CLOSE = range(14)
 RELIEF = 255
@@ -119,9 +121,34 @@ def lane_file(processes, channels):
     return file
 
 
-for name, lane in LANES.items():
-    folder = pathlib.Path(__file__).parent / name
-    folder.mkdir(exist_ok=True)
-    (folder / "net.bin").write_bytes(lane_file(lane["processes"], lane["channels"]))
-    (folder / "in.bin").write_bytes(b"".join(struct.pack(">Bi", *record) for record in lane["input"]))
-    (folder / "picks.bin").write_bytes(bytes(lane["picks"]))
+def files():
+    """Each file and what stands in it."""
+    for name, lane in LANES.items():
+        folder = pathlib.Path(__file__).parent / name
+        yield folder / "net.bin", lane_file(lane["processes"], lane["channels"])
+        yield folder / "in.bin", b"".join(struct.pack(">Bi", *record) for record in lane["input"])
+        yield folder / "picks.bin", bytes(lane["picks"])
+
+
+def write():
+    for path, content in files():
+        path.parent.mkdir(exist_ok=True)
+        path.write_bytes(content)
+
+
+def check_stored():
+    """Says which stored file differs, or that there is one that no lane has."""
+    made = dict(files())
+    stored = set(pathlib.Path(__file__).parent.glob("*/*.bin"))
+    wrong = [path for path, content in made.items() if not path.is_file() or path.read_bytes() != content]
+    for path in wrong + sorted(stored - set(made)):
+        print(f"{path}: not what lanes.py writes")
+    return not wrong and stored <= set(made)
+
+
+if sys.argv[1:] == ["--check"]:
+    sys.exit(0 if check_stored() else 1)
+elif sys.argv[1:]:
+    sys.exit("lanes.py [--check]")
+else:
+    write()

@@ -18,6 +18,12 @@ pub struct Coverage {
     lines: [(u64, u64); 3],
     /// The same for the conditions in `proc` lines.
     conditions: [(u64, u64); 5],
+    pub picks: Picks,
+}
+
+/// What picks and reliefs did.
+#[derive(Default)]
+pub struct Picks {
     /// Instructions that moved, by number.
     moved: [u64; 14],
     answers: [u64; 4],
@@ -27,6 +33,8 @@ pub struct Coverage {
     now: Option<(Instruction, [bool; SPECIAL.len()])>,
 }
 
+/// The refusals that a bench can answer.
+const REFUSED: [usize; 10] = [1, 2, 3, 4, 5, 6, 7, 8, 15, 17];
 const LINES: [&str; 3] = ["out ", "end ", "grow "];
 const CONDITIONS: [&str; 5] = ["stop", "fault", "empty", "full", "run"];
 const ANSWERS: [&str; 4] = ["moved", "waiting-empty", "waiting-full", "ended"];
@@ -76,9 +84,42 @@ impl Coverage {
             *total = (total.0 + count.min(1), total.1 + count);
         }
     }
+
+    /// What was not met, each by its name.
+    pub fn missing(&self) -> Vec<String> {
+        let refused = REFUSED.map(|number| (format!("refusal {number}"), self.refused[number]));
+        let named = |kind: &str, names: &[&str], lanes: &[(u64, u64)]| -> Vec<Counted> {
+            let counts = names.iter().zip(lanes);
+            counts.map(|(name, &(lanes, _))| (format!("{kind} {name}"), lanes)).collect()
+        };
+        let lines = named("a line", &LINES, &self.lines);
+        let conditions = named("condition", &CONDITIONS, &self.conditions);
+        names_of_none([&refused[..], &lines, &conditions, &self.picks.counts()].concat())
+    }
 }
 
-impl Watch for Coverage {
+/// A kind of case by its name, and how often it was met.
+pub type Counted = (String, u64);
+
+/// The names of what was met no time.
+pub fn names_of_none(counts: Vec<Counted>) -> Vec<String> {
+    counts.into_iter().filter(|&(_, count)| count == 0).map(|(name, _)| name).collect()
+}
+
+impl Picks {
+    /// All that is counted.
+    pub fn counts(&self) -> Vec<Counted> {
+        let moved = self.moved.iter().enumerate();
+        let moved = moved.map(|(op, &count)| (format!("a move by op {op}"), count));
+        let answers = ANSWERS.iter().zip(self.answers);
+        let answers = answers.map(|(name, count)| (format!("a pick {name}"), count));
+        let special = SPECIAL.iter().zip(self.special);
+        let special = special.map(|(name, count)| (name.to_string(), count));
+        moved.chain(answers).chain(special).collect()
+    }
+}
+
+impl Watch for Picks {
     fn picking(&mut self, lane: &Lane, process: usize) {
         let instruction = lane.instruction(process);
         let Instruction { op, b, c, .. } = instruction;
@@ -154,14 +195,14 @@ impl fmt::Display for Coverage {
             write!(to, "  {name}: {lanes} ({lines})")?;
         }
         write!(to, "\ninstructions that moved")?;
-        for (number, count) in self.moved.iter().enumerate() {
+        for (number, count) in self.picks.moved.iter().enumerate() {
             write!(to, "  {number}: {count}")?;
         }
         write!(to, "\npicks")?;
-        for (name, count) in ANSWERS.iter().zip(self.answers) {
+        for (name, count) in ANSWERS.iter().zip(self.picks.answers) {
             write!(to, "  {name}: {count}")?;
         }
-        for (name, count) in SPECIAL.iter().zip(self.special) {
+        for (name, count) in SPECIAL.iter().zip(self.picks.special) {
             write!(to, "\n{name}: {count}")?;
         }
         writeln!(to)

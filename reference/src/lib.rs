@@ -1,6 +1,8 @@
-//! A second implementation of the lane run-time, written from the scope
-//! document alone. It exists to be compared with the first one, and to say how
-//! many instructions the same work takes in ordinary Rust.
+//! A second implementation of the lane run-time, written from documents alone:
+//! the scope document, the decisions on its open points (docs/DECISIONS.md) and
+//! the page on scripts (docs/SCRIPTS.md). It exists to be compared with the
+//! first one, and to say how many instructions the same work takes in ordinary
+//! Rust.
 //!
 //! | module     | what it holds                                              |
 //! |------------|------------------------------------------------------------|
@@ -13,6 +15,8 @@
 //! | `relief`   | rings of waiting processes                                 |
 //! | `schedule` | a run and the driver                                       |
 //! | `bench`    | the bench and its listing                                  |
+//! | `script`   | the lines of a script of calls                             |
+//! | `replay`   | replaying such a script                                    |
 //! | `plain`    | the plain order, with channels that never fill             |
 //! | `random`   | random numbers that can be repeated                        |
 //! | `plans`    | random networks                                            |
@@ -20,20 +24,30 @@
 //! | `gen`      | random cases for the bench                                 |
 //! | `damage`   | damaged files, inputs and picks                            |
 //! | `coverage` | what a comparison has met                                  |
+//! | `scripts`  | random scripts of calls                                    |
+//! | `clauses`  | edits that make a lane unsound, for each clause of that    |
+//! | `odd`      | edits after which it is sound, but odd                     |
+//! | `met`      | what scripts have met                                      |
 
 pub mod bench;
 pub mod calls;
 pub mod check;
+pub mod clauses;
 pub mod coverage;
 pub mod damage;
 pub mod file;
 pub mod gen;
 pub mod lane;
+pub mod met;
 pub mod network;
+pub mod odd;
 pub mod plain;
 pub mod plans;
 pub mod programs;
 pub mod random;
 pub mod refusal;
 pub mod relief;
+pub mod replay;
 pub mod schedule;
+pub mod script;
+pub mod scripts;

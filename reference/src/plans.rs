@@ -40,6 +40,12 @@ pub fn largest(seed: u64) -> Network {
     Plan::largest(random).network(random)
 }
 
+/// A network with rings, up to the largest capacities or not.
+pub fn rings(random: &mut Random) -> Network {
+    let plan = if random.percent(50) { Plan::ceiling(random) } else { Plan::rings(random) };
+    plan.network(random)
+}
+
 /// A lane before its code is written.
 struct Plan {
     styles: Vec<Style>,

@@ -55,7 +55,7 @@ impl Lane {
 
     /// The ring of the lowest process that stands on one with a full wait on a
     /// channel below 256.
-    fn find_ring(&self) -> Result<Ring, Refusal> {
+    pub(crate) fn find_ring(&self) -> Result<Ring, Refusal> {
         let processes = usize::from(self.network.processes);
         let mut waits = [None; PROCESSES];
         for (process, wait) in waits[..processes].iter_mut().enumerate() {

@@ -3,7 +3,8 @@
 //!
 //! compare [SEED] [COUNT] [each]
 //!
-//! With `each`, the seed of every case is printed before the case is tried.
+//! With `each`, the seed of every case is printed before the case is tried. In
+//! 20,000 cases or more each kind of case that is counted must have been met.
 
 use reference::bench::bench_watched;
 use reference::check::check;
@@ -32,6 +33,9 @@ const MARGIN: usize = 64;
 /// The longest slice handed to the check.
 const SLICE: usize = 5_000;
 
+/// So many cases, and more, meet every kind that is counted.
+const ENOUGH: u64 = 20_000;
+
 /// Published checks of this kind.
 const PUBLISHED: [(&[u8], u16); 6] = [
     (b"123456789", 0x29B1),
@@ -48,7 +52,7 @@ fn main() -> ExitCode {
         Some(text) => text.parse().ok(),
         None => Some(otherwise),
     };
-    let (Some(mut seed), Some(count)) = (number(1), number(20_000)) else {
+    let (Some(mut seed), Some(count)) = (number(1), number(ENOUGH)) else {
         eprintln!("compare [SEED] [COUNT] [each]");
         return ExitCode::from(2);
     };
@@ -78,6 +82,11 @@ fn main() -> ExitCode {
         seed = following(seed);
     }
     print!("{coverage}");
+    let missing = coverage.missing();
+    if count >= ENOUGH && !missing.is_empty() {
+        println!("NOT MET in {count} lanes: {}", missing.join(", "));
+        return ExitCode::FAILURE;
+    }
     println!("{count} lanes and {} checks compared: all agree", count + PUBLISHED.len() as u64);
     ExitCode::SUCCESS
 }
@@ -98,8 +107,13 @@ fn same_bench(case: &Case, coverage: &mut Coverage, start: u8) -> Result<(), Str
     let pattern: Vec<u8> =
         (0..case.listing + 2 * MARGIN).map(|at| (at as u8).wrapping_mul(167) ^ start).collect();
     let mut expected = pattern.clone();
-    let mine =
-        bench_watched(&case.file, &case.input, &case.picks, &mut expected[lent.clone()], coverage);
+    let mine = bench_watched(
+        &case.file,
+        &case.input,
+        &case.picks,
+        &mut expected[lent.clone()],
+        &mut coverage.picks,
+    );
     let answer = match mine {
         Ok(length) => length as i32,
         Err(refusal) => -i32::from(refusal.number()),
