@@ -2,6 +2,11 @@
 // which names the place of what is wrong, has the tests in `network`.
 use base::Verdict;
 use network::Network;
+use slots_and_records::all_zero;
+use slots_and_records::records_right;
+use slots_and_records::slots_right;
+use slots_and_records::unused_records;
+use slots_and_records::unused_slots;
 ghost use mathlib.Core.Path.{_≡_};
 ghost use Prim.Native.Nat.{ℕ, _≤_, _<_};
 ghost use lib.ListN.{length, getD};
@@ -66,28 +71,23 @@ pub fn passes(net: Network) -> bool
     if c < 1 || 32 < c {
         return false;
     }
-    if !slots_and_records::slots_right(&net.first, &net.count, p) {
+    if !slots_right(&net.first, &net.count, p) {
         return false;
     }
     let total = network::total(&net.first, &net.count, p);
     if 1016 < total {
         return false;
     }
-    if !slots_and_records::records_right(&net.sender, &net.receiver, &net.capacity, c, p as u8) {
+    if !records_right(&net.sender, &net.receiver, &net.capacity, c, p as u8) {
         return false;
     }
-    let Verdict::Good = slots_and_records::unused_slots(&net.first, &net.count, p) else {
+    let Verdict::Good = unused_slots(&net.first, &net.count, p) else {
         return false;
     };
-    let Verdict::Good = slots_and_records::unused_records(
-        &net.sender,
-        &net.receiver,
-        &net.capacity,
-        c,
-    ) else {
+    let Verdict::Good = unused_records(&net.sender, &net.receiver, &net.capacity, c) else {
         return false;
     };
-    if !slots_and_records::all_zero(&net.code, 4 * total) {
+    if !all_zero(&net.code, 4 * total) {
         return false;
     }
     code_right(
