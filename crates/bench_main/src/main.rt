@@ -23,14 +23,14 @@ fn show(file: &[u8], input: &[u8], picks: &[u8]) {
     }
 }
 
-// A file that cannot be opened or read is empty. Each buffer has one byte more than the longest file that is taken, so that a longer one is seen.
+// Each buffer has one byte more than the longest file that is taken, so that a longer one is seen.
 fn main() {
     let mut file = [0u8; 4609];
-    let file_length = io::read_full(os::open_read(b"net.bin"), &mut file);
+    let file_length = files::load(b"net.bin", &mut file);
     let mut input = [0u8; 20481];
-    let input_length = io::read_full(os::open_read(b"in.bin"), &mut input);
+    let input_length = files::load(b"in.bin", &mut input);
     let mut picks = [0u8; 3001];
-    let picks_length = io::read_full(os::open_read(b"picks.bin"), &mut picks);
+    let picks_length = files::load(b"picks.bin", &mut picks);
     show(
         &file[..file_length],
         &input[..input_length],

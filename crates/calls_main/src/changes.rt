@@ -9,13 +9,6 @@ use lane::Standing;
 use process::Channel;
 use process::Condition;
 
-// A lane, the cells for it, and how many of them are lent to a call.
-pub struct Desk {
-    pub lane: Lane,
-    pub cells: [i32; 8193],
-    pub room: usize,
-}
-
 fn condition_number(condition: Condition) -> u8 {
     match condition {
         Condition::Live => 0,
@@ -87,11 +80,10 @@ fn print_lane(a: Lane, b: Lane) {
     print_channels(channels, channels_after);
 }
 
-pub fn print_changes(before: Desk, after: Desk) {
-    let a = before.lane;
-    let b = after.lane;
+// From lane a with the cells that it had to lane b with its cells.
+pub fn print_changes(a: Lane, had: &[i32], b: Lane, cells: &[i32]) {
     print_lane(a, b);
-    print_values(words::ALSO_CELL, &before.cells, &after.cells);
+    print_values(words::ALSO_CELL, had, cells);
     if a.accepted != b.accepted {
         print_number(words::ALSO_ACCEPTED, b.accepted);
     }

@@ -1,73 +1,250 @@
-// Changes of a lane by hand, to any values, since the calls must answer on every lane. What is changed goes by the first letter of the line's
-// second word; `k` is the number in its third.
-use crate::script::letter;
-use crate::script::number;
-use crate::script::signed;
+// Changes of a lane by hand, to any values, since the calls must answer on every lane (docs/SCRIPTS.md).
+use crate::script::fits;
+use crate::script::number_at;
+use crate::script::value_at;
 use lane::Lane;
 use lane::Standing;
 use network::Network;
 use process::Channel;
 use process::Condition;
 
-fn short(n: u64) -> u16 {
-    (n % 65536) as u16
+// What is changed, by its number k, and to what. Each number is within its limit.
+pub enum Edit {
+    Network {
+        processes: usize,
+        channels: usize,
+    },
+    Slot {
+        k: usize,
+        first: u16,
+        count: u16,
+    },
+    Record {
+        k: usize,
+        sender: u8,
+        receiver: u8,
+        capacity: u16,
+    },
+    Byte(usize, u8),
+    Process(usize, Standing),
+    Register(usize, i32),
+    Channel(usize, Channel),
+    Cell(usize, i32),
+    Accepted(u64),
+    Bad,
 }
 
-fn condition_of(first: u8) -> Condition {
-    match first {
-        b'l' => Condition::Live,
-        b's' => Condition::Stopped,
-        _ => Condition::Faulted,
+// ---- an edit in words. The forms have their numbers, and `within` has tested them: the remainders change none.
+fn within(words: &[u8], n: usize, most: u64) -> bool {
+    number_at(words, n) <= most
+}
+
+fn size(words: &[u8], n: usize) -> usize {
+    number_at(words, n) as usize
+}
+
+fn short(words: &[u8], n: usize) -> u16 {
+    (number_at(words, n) % 65536) as u16
+}
+
+fn byte(words: &[u8], n: usize) -> u8 {
+    (number_at(words, n) % 256) as u8
+}
+
+fn network_of(words: &[u8]) -> Edit {
+    Edit::Network {
+        processes: size(words, 1),
+        channels: size(words, 2),
     }
 }
 
-// make process 0 position 3 live moves 5
-fn standing_of(line: &[u8]) -> Standing {
-    Standing {
-        position: short(number(line, 4)),
-        condition: condition_of(letter(line, 5)),
-        moves: number(line, 7),
+fn slot_of(words: &[u8]) -> Edit {
+    if within(words, 1, 15) && (within(words, 3, 65535) && within(words, 5, 65535)) {
+        return Edit::Slot {
+            k: size(words, 1),
+            first: short(words, 3),
+            count: short(words, 5),
+        };
     }
+    Edit::Bad
 }
 
-// make channel 1 capacity 2 oldest 255 held 1 open
-fn channel_of(line: &[u8]) -> Channel {
-    Channel {
-        capacity: short(number(line, 4)),
-        oldest: short(number(line, 6)),
-        held: short(number(line, 8)),
-        closed: letter(line, 9) == b'c',
+fn record_of(words: &[u8]) -> Edit {
+    if within(words, 1, 31)
+        && (within(words, 3, 255) && (within(words, 5, 255) && within(words, 7, 65535)))
+    {
+        return Edit::Record {
+            k: size(words, 1),
+            sender: byte(words, 3),
+            receiver: byte(words, 5),
+            capacity: short(words, 7),
+        };
     }
+    Edit::Bad
 }
 
-// make byte 12 14, of the code
-fn with_byte(net: Network, k: usize, line: &[u8]) -> Network {
+fn byte_of(words: &[u8]) -> Edit {
+    if within(words, 1, 4063) && within(words, 2, 255) {
+        return Edit::Byte(size(words, 1), byte(words, 2));
+    }
+    Edit::Bad
+}
+
+fn process_of(words: &[u8], condition: Condition) -> Edit {
+    let standing = Standing {
+        position: short(words, 3),
+        condition,
+        moves: number_at(words, 6),
+    };
+    if within(words, 1, 15) && within(words, 3, 65535) {
+        return Edit::Process(size(words, 1), standing);
+    }
+    Edit::Bad
+}
+
+fn register_of(words: &[u8]) -> Edit {
+    if within(words, 1, 127) {
+        return Edit::Register(size(words, 1), value_at(words, 2));
+    }
+    Edit::Bad
+}
+
+fn channel_of(words: &[u8], closed: bool) -> Edit {
+    let channel = Channel {
+        capacity: short(words, 3),
+        oldest: short(words, 5),
+        held: short(words, 7),
+        closed,
+    };
+    if within(words, 1, 31)
+        && (within(words, 3, 65535) && (within(words, 5, 65535) && within(words, 7, 65535)))
+    {
+        return Edit::Channel(size(words, 1), channel);
+    }
+    Edit::Bad
+}
+
+fn cell_of(words: &[u8]) -> Edit {
+    if within(words, 1, 8192) {
+        return Edit::Cell(size(words, 1), value_at(words, 2));
+    }
+    Edit::Bad
+}
+
+// An edit of the lane's state.
+fn state_of(words: &[u8]) -> Edit {
+    if fits(words, b"process N position N live moves N") {
+        return process_of(words, Condition::Live);
+    }
+    if fits(words, b"process N position N stopped moves N") {
+        return process_of(words, Condition::Stopped);
+    }
+    if fits(words, b"process N position N faulted moves N") {
+        return process_of(words, Condition::Faulted);
+    }
+    if fits(words, b"register N V") {
+        return register_of(words);
+    }
+    if fits(words, b"channel N capacity N oldest N held N open") {
+        return channel_of(words, false);
+    }
+    if fits(words, b"channel N capacity N oldest N held N closed") {
+        return channel_of(words, true);
+    }
+    if fits(words, b"cell N V") {
+        return cell_of(words);
+    }
+    if fits(words, b"accepted N") {
+        return Edit::Accepted(number_at(words, 1));
+    }
+    Edit::Bad
+}
+
+pub fn edit_of(words: &[u8]) -> Edit {
+    if fits(words, b"network N N") {
+        return network_of(words);
+    }
+    if fits(words, b"slot N first N count N") {
+        return slot_of(words);
+    }
+    if fits(words, b"record N sender N receiver N capacity N") {
+        return record_of(words);
+    }
+    if fits(words, b"byte N N") {
+        return byte_of(words);
+    }
+    state_of(words)
+}
+
+// ---- what an edit does
+fn with_sizes(net: Network, processes: usize, channels: usize) -> Network {
     let mut m = net;
-    if k < 4064 {
-        m.code[k] = (number(line, 3) % 256) as u8;
-    }
+    m.processes = processes;
+    m.channels = channels;
     m
 }
 
-// make network 17 7: processes and channels
-fn with_sizes(net: Network, k: usize, line: &[u8]) -> Network {
+fn with_slot(net: Network, k: usize, first: u16, count: u16) -> Network {
     let mut m = net;
-    m.processes = k;
-    m.channels = number(line, 3) as usize;
+    m.first[k % 16] = first;
+    m.count[k % 16] = count;
     m
 }
 
-// make register 23 -9, of the 128; make accepted 5
-pub fn edited(lane: Lane, line: &[u8]) -> Lane {
-    let k = number(line, 2) as usize;
+fn with_record(net: Network, k: usize, sender: u8, receiver: u8, capacity: u16) -> Network {
+    let mut m = net;
+    m.sender[k % 32] = sender;
+    m.receiver[k % 32] = receiver;
+    m.capacity[k % 32] = capacity;
+    m
+}
+
+fn with_byte(net: Network, k: usize, byte: u8) -> Network {
+    let mut m = net;
+    m.code[k % 4064] = byte;
+    m
+}
+
+pub fn edited(lane: Lane, edit: Edit) -> Lane {
     let mut l = lane;
-    match letter(line, 1) {
-        b'p' => l.processes[k % 16] = standing_of(line),
-        b'c' => l.channels[k % 32] = channel_of(line),
-        b'r' => l.registers[k % 128] = signed(line, 3),
-        b'a' => l.accepted = number(line, 2),
-        b'b' => l.network = with_byte(lane.network, k, line),
-        _ => l.network = with_sizes(lane.network, k, line),
+    match edit {
+        Edit::Network {
+            processes,
+            channels,
+        } => l.network = with_sizes(lane.network, processes, channels),
+        Edit::Slot { k, first, count } => l.network = with_slot(lane.network, k, first, count),
+        Edit::Record {
+            k,
+            sender,
+            receiver,
+            capacity,
+        } => l.network = with_record(lane.network, k, sender, receiver, capacity),
+        Edit::Byte(k, byte) => l.network = with_byte(lane.network, k, byte),
+        Edit::Process(k, standing) => l.processes[k % 16] = standing,
+        Edit::Register(k, v) => l.registers[k % 128] = v,
+        Edit::Channel(k, channel) => l.channels[k % 32] = channel,
+        Edit::Cell(_, _) => {}
+        Edit::Accepted(n) => l.accepted = n,
+        Edit::Bad => {}
     }
     l
+}
+
+// An edit of a cell; of cells no other edit changes any.
+pub fn put(cells: &mut [i32], edit: Edit) {
+    if let Edit::Cell(k, v) = edit {
+        if k < cells.len() {
+            cells[k] = v;
+        }
+    }
+}
+
+// The edit of a cell that undoes this one.
+pub fn undoing(cells: &[i32], edit: Edit) -> Edit {
+    if let Edit::Cell(k, _) = edit {
+        if k < cells.len() {
+            return Edit::Cell(k, cells[k]);
+        }
+    }
+    Edit::Bad
 }

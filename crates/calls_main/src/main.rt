@@ -1,157 +1,202 @@
-// Runs three scripts of calls on lanes (data/instructions.txt, channels.txt, refusals.txt) and prints each of their lines, with the answer and all
-// that the call changed. `stdout` holds what document 01 says that they must answer.
+// Runs a script of calls on a lane, from standard input, and prints each of its lines, with the answer and all that the call changed
+// (docs/SCRIPTS.md). `stdin` is a script for a person to read, and `stdout` holds what document 01 says that it must answer.
+mod calls;
 mod changes;
 mod edits;
+mod lent;
+mod lines;
 mod script;
 mod shows;
 mod words;
 
-use crate::changes::Desk;
-use crate::script::letter;
-use crate::script::number;
+use crate::changes::print_changes;
+use crate::edits::Edit;
+use crate::lines::Call;
+use crate::lines::Line;
+use crate::script::next;
+use crate::script::rest;
 use crate::shows::print;
-use crate::shows::print_fed;
-use crate::shows::print_picked;
-use crate::shows::print_taken;
 use lane::Lane;
+ghost use mathlib.Core.Path.{_≡_};
+ghost use lib.ListN.{length};
 
-// ---- calls, by the first letter of their names, on channel or process k
-fn pick(lane: Lane, cells: &mut [i32], k: usize) -> Lane {
-    let picked = lane_calls::pick(lane, cells, k);
-    let answer = picked.answer;
-    print_picked(answer);
-    picked.lane
+// A lane, and how many of the cells are lent to a call. The cells stand beside it, as does a second row of cells: what they were before a call.
+struct Desk {
+    lane: Lane,
+    room: usize,
 }
 
-fn feed(lane: Lane, cells: &mut [i32], k: usize, v: i32) -> Lane {
-    let fed = lane_calls::feed(lane, cells, k, v);
-    let answer = fed.answer;
-    print_fed(answer);
-    fed.lane
-}
-
-fn close(lane: Lane, k: usize) -> Lane {
-    let closed = lane_calls::close(lane, k);
-    let answer = closed.answer;
-    print_fed(answer);
-    closed.lane
-}
-
-fn take(lane: Lane, cells: &[i32], k: usize) -> Lane {
-    let taken = lane_calls::take(lane, cells, k);
-    let answer = taken.answer;
-    print_taken(answer);
-    taken.lane
-}
-
-fn called(lane: Lane, cells: &mut [i32], name: u8, k: usize, v: i32) -> Lane {
-    match name {
-        b'p' => pick(lane, cells, k),
-        b'f' => feed(lane, cells, k, v),
-        b'c' => close(lane, k),
-        _ => take(lane, cells, k),
+// ---- cells
+fn fill(cells: &mut [i32], v: i32) {
+    let mut k: usize = 0;
+    while k < cells.len() {
+        cells[k] = v;
+        k += 1;
     }
 }
 
-// A call that is lent the first `room` cells.
-fn called_in(lane: Lane, cells: &mut [i32], room: usize, name: u8, k: usize, v: i32) -> Lane {
-    let start = 0;
-    if cells.len() < room {
-        return lane;
+fn copy(from: &[i32], to: &mut [i32]) {
+    let mut k: usize = 0;
+    while k < from.len() {
+        if to.len() <= k {
+            return;
+        }
+        to[k] = from[k];
+        k += 1;
     }
-    called(lane, &mut cells[start..room], name, k, v)
 }
 
-// A call, and what it changed.
-fn call(desk: Desk, name: u8, k: usize, v: i32) -> Desk {
-    let mut cells = desk.cells;
-    let before = desk.lane;
-    let room = desk.room;
-    print(words::COLON);
-    let lane = called_in(before, &mut cells, room, name, k, v);
-    let after = Desk { lane, cells, room };
-    changes::print_changes(desk, after);
-    after
+// ---- files
+// The lane at the start, of the network of a file, or of no network where it is refused.
+fn fresh(file: &[u8]) -> Lane {
+    let reading = lane_reader::read(file);
+    lane_sound::fresh(reading.network)
 }
 
-// ---- steps
-// The lane at the start, of the network of a file; one that cannot be read has no bytes. Every cell holds 99.
-fn start(name: &[u8]) -> Desk {
-    let mut file = [0u8; 4608];
-    let n = io::read_full(os::open_read(name), &mut file);
-    let reading = lane_reader::read(&file[..n]);
-    let lane = lane_sound::fresh(reading.network);
+// A file has one byte more than the longest that is taken, so that a longer one is seen.
+fn start(cells: &mut [i32], name: &[u8]) -> Desk {
+    let mut file = [0u8; 4609];
+    let n = files::load(name, &mut file);
+    fill(cells, 99);
     Desk {
-        lane,
-        cells: [99; 8193],
+        lane: fresh(&file[..n]),
         room: 8192,
     }
 }
 
+fn read(name: &[u8]) {
+    let mut file = [0u8; 4609];
+    let n = files::load(name, &mut file);
+    let reading = lane_reader::read(&file[..n]);
+    let answer = reading.answer;
+    print(words::COLON);
+    shows::print_reading(answer);
+}
+
+fn write_into(lane: Lane, buffer: &mut [u8]) {
+    let net = lane.network;
+    let answer = lane_writer::write(net, buffer);
+    print(words::COLON);
+    shows::print_written(answer);
+    shows::print_hex(buffer);
+}
+
+// Each byte of the buffer is 99 before.
+fn write(lane: Lane, n: usize) {
+    let mut buffer = [99u8; 4700];
+    let start = 0;
+    if n <= 4700 {
+        write_into(lane, &mut buffer[start..n]);
+    }
+}
+
+// ---- calls
+// A call, and what it changed.
+fn call(desk: Desk, cells: &mut [i32], had: &mut [i32], call: Call, line: &[u8]) -> Desk {
+    let before = desk.lane;
+    let room = desk.room;
+    copy(cells, had);
+    print(words::COLON);
+    let lane = calls::called_in(before, cells, room, call, line);
+    print_changes(before, had, lane, cells);
+    Desk { lane, room }
+}
+
+// All that is not as in the fresh lane of no network with cells of 99.
+fn show(lane: Lane, cells: &[i32], had: &mut [i32]) {
+    fill(had, 99);
+    print_changes(fresh(b""), had, lane, cells);
+}
+
 // The lane changed by hand.
-fn edited(desk: Desk, line: &[u8]) -> Desk {
-    let lane = edits::edited(desk.lane, line);
-    let cells = desk.cells;
+fn edited(desk: Desk, edit: Edit) -> Desk {
+    let lane = edits::edited(desk.lane, edit);
     Desk {
         lane,
-        cells,
         room: desk.room,
     }
 }
 
+fn make(desk: Desk, cells: &mut [i32], edit: Edit) -> Desk {
+    edits::put(cells, edit);
+    edited(desk, edit)
+}
+
+// A pick of process 0 on a copy that is changed by hand: the cells are put back.
+fn with(desk: Desk, cells: &mut [i32], had: &mut [i32], edit: Edit) {
+    let undo = edits::undoing(cells, edit);
+    edits::put(cells, edit);
+    call(edited(desk, edit), cells, had, Call::Pick(0), b"");
+    copy(had, cells);
+    edits::put(cells, undo);
+}
+
 // The calls that follow are lent so many cells.
-fn lent(desk: Desk, room: usize) -> Desk {
+fn lend(desk: Desk, room: usize) -> Desk {
     let mut d = desk;
     d.room = room;
     d
 }
 
-// A line of the script, by its first letter: lane, make, room, show (all that is not as in a lane of no network), with, a note, or a call.
-fn step(desk: Desk, line: &[u8]) -> Desk {
-    io::write_all(1, line);
-    let name = letter(line, 0);
-    match name {
-        b'l' => start(script::rest(line, 5)),
-        b'm' => edited(desk, line),
-        b'r' => lent(desk, number(line, 1) as usize),
-        b's' => {
-            changes::print_changes(start(b""), desk);
+// ---- the script
+fn step(desk: Desk, cells: &mut [i32], had: &mut [i32], line: &[u8]) -> Desk {
+    let asked = lines::line_of(line);
+    match asked {
+        Line::Note => desk,
+        Line::Lane => start(cells, rest(line, 5)),
+        Line::Read => {
+            read(rest(line, 5));
             desk
         }
-        b'w' => {
-            call(edited(desk, line), b'p', 0, 0);
+        Line::Write(n) => {
+            write(desk.lane, n);
             desk
         }
-        b'#' => desk,
-        0 => desk,
-        _ => call(
-            desk,
-            name,
-            number(line, 1) as usize,
-            script::signed(line, 2),
-        ),
+        Line::Room(n) => lend(desk, n),
+        Line::Show => {
+            show(desk.lane, cells, had);
+            desk
+        }
+        Line::Calls(asks) => call(desk, cells, had, asks, line),
+        Line::Make(edit) => make(desk, cells, edit),
+        Line::With(edit) => {
+            with(desk, cells, had, edit);
+            desk
+        }
+        Line::Bad => {
+            print(words::BAD_LINE);
+            desk
+        }
     }
 }
 
-fn run(first: Desk, text: &[u8]) {
-    let mut desk = first;
+// Each line as it stands, with what is printed after it.
+fn run(text: &[u8], cells: &mut [i32], had: &mut [i32]) {
+    let mut desk = Desk {
+        lane: fresh(b""),
+        room: 8192,
+    };
     let mut at: usize = 0;
     while at < text.len() {
-        let end = script::line_end(text, at);
-        desk = step(desk, &text[at..end]);
+        let end = next(text, at, b'\n');
+        io::write_all(1, &text[at..end]);
+        desk = step(desk, cells, had, &text[at..end]);
         print(words::NEWLINE);
         at = end + 1;
     }
 }
 
-fn run_file(name: &[u8]) {
-    let mut text = [0u8; 16384];
-    let n = io::read_full(os::open_read(name), &mut text);
-    run(start(b""), &text[..n]);
+// Room for a script. Only its length is known of it, so that the check does not lay it out byte by byte.
+fn space() -> [u8; 1048576]
+    ensures { λ r. ⌜ 1048576 ≡ length r ⌝ }
+{
+    [0; 1048576]
 }
 
 fn main() {
-    run_file(b"instructions.txt");
-    run_file(b"channels.txt");
-    run_file(b"refusals.txt");
+    let mut text = space();
+    let n = io::read_full(0, &mut text);
+    let mut cells = [99i32; 8193];
+    let mut had = [99i32; 8193];
+    run(&text[..n], &mut cells, &mut had);
 }

@@ -5,8 +5,14 @@ use lane::FeedAnswer;
 use lane::PickAnswer;
 use lane::Standing;
 use lane::TakeAnswer;
+use lane_file::Answer;
+use lane_file::Written;
 use process::Channel;
 use process::Condition;
+use relief::ReliefAnswer;
+use schedule::DriveAnswer;
+use schedule::End;
+use schedule::RunAnswer;
 
 pub fn print(word: [u8; 16]) {
     let start = 0;
@@ -67,6 +73,104 @@ pub fn print_taken(answer: TakeAnswer) {
         TakeAnswer::End => print(words::END),
         TakeAnswer::Refused(r) => print_refusal(r),
     }
+}
+
+pub fn print_relieved(answer: ReliefAnswer) {
+    match answer {
+        ReliefAnswer::Enlarged { length, channel } => {
+            print_number(words::ENLARGED, channel as u64);
+            print_number(words::RING, length as u64);
+        }
+        ReliefAnswer::Refused(r) => print_refusal(r),
+    }
+}
+
+pub fn print_ran(answer: RunAnswer) {
+    match answer {
+        RunAnswer::Ran { moved, enlarged } => {
+            print_number(words::MOVED_SO_MANY, moved);
+            print_number(words::ENLARGED, enlarged);
+        }
+        RunAnswer::Refused(r) => print_refusal(r),
+    }
+}
+
+fn print_end(end: End) {
+    match end {
+        End::Settled => print(words::SETTLED),
+        End::Ceiling => print(words::CEILING),
+        End::Spent => print(words::SPENT),
+    }
+}
+
+pub fn print_driven(answer: DriveAnswer) {
+    match answer {
+        DriveAnswer::Driven {
+            end,
+            picks,
+            enlarged,
+        } => {
+            print_end(end);
+            print_number(words::PICKS, picks);
+            print_number(words::ENLARGED, enlarged);
+        }
+        DriveAnswer::Refused(r) => print_refusal(r),
+    }
+}
+
+pub fn print_reading(answer: Answer) {
+    match answer {
+        Answer::Accepted => print(words::ACCEPTED),
+        Answer::Refused(r, place) => {
+            print_refusal(r);
+            print_number(words::PLACE, place as u64);
+        }
+    }
+}
+
+pub fn print_written(answer: Written) {
+    match answer {
+        Written::Length(n) => print_number(words::WRITTEN, n as u64),
+        Written::Denied(r) => print_refusal(r),
+    }
+}
+
+// ---- buffers
+pub fn print_bytes(bytes: &[u8]) {
+    print(words::ALSO_BUFFER);
+    let mut k: usize = 0;
+    while k < bytes.len() {
+        print_number(words::SPACE, base::wide(bytes[k]) as u64);
+        k += 1;
+    }
+}
+
+fn hex_digit(n: u8) -> u8 {
+    let d = n % 16;
+    if d < 10 {
+        return b'0' + d;
+    }
+    b'a' + (d - 10)
+}
+
+// Every byte as two digits, of a buffer of at most 4,700, in one piece.
+pub fn print_hex(bytes: &[u8]) {
+    print(words::ALSO_BUFFER);
+    print(words::SPACE);
+    let mut text = [0u8; 9400];
+    let mut k: usize = 0;
+    while k < bytes.len() {
+        if k == 4700 {
+            return;
+        }
+        let byte = bytes[k];
+        text[2 * k] = hex_digit(byte / 16);
+        text[2 * k + 1] = hex_digit(byte);
+        k += 1;
+    }
+    let start = 0;
+    let end = 2 * k;
+    io::write_all(1, &text[start..end]);
 }
 
 // ---- parts of a lane

@@ -17,6 +17,26 @@ pub const END: [u8; 16] = *b" end............";
 
 pub const REFUSED: [u8; 16] = *b" refused .......";
 
+pub const PLACE: [u8; 16] = *b" place .........";
+
+pub const WRITTEN: [u8; 16] = *b" written .......";
+
+pub const ENLARGED: [u8; 16] = *b" enlarged ......";
+
+pub const RING: [u8; 16] = *b" ring ..........";
+
+pub const MOVED_SO_MANY: [u8; 16] = *b" moved .........";
+
+pub const SETTLED: [u8; 16] = *b" settled........";
+
+pub const CEILING: [u8; 16] = *b" ceiling........";
+
+pub const SPENT: [u8; 16] = *b" spent..........";
+
+pub const PICKS: [u8; 16] = *b" picks .........";
+
+pub const BAD_LINE: [u8; 16] = *b": bad line......";
+
 // ---- parts of a lane
 pub const POSITION: [u8; 16] = *b" position ......";
 
@@ -51,8 +71,12 @@ pub const ALSO_CHANNEL: [u8; 16] = *b"; channel ......";
 
 pub const ALSO_ACCEPTED: [u8; 16] = *b"; accepted .....";
 
+pub const ALSO_BUFFER: [u8; 16] = *b"; buffer........";
+
 // ---- signs
 pub const COLON: [u8; 16] = *b":...............";
+
+pub const SPACE: [u8; 16] = *b" ...............";
 
 pub const MINUS: [u8; 16] = *b"-...............";
 

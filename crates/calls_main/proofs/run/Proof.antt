@@ -1,22 +1,41 @@
 -- `calls_main::run` is safe and ends.
 -- Assumes nothing.
-use Prim.Native.Nat.{_≤_, _-_}
+use Prim.Native.Nat.{_-_}
+use mathlib.Core.Path.{_≡_}
 use lib.ListN.{length}
 use borrow.Author.Needs.{needs}
 use Rattle.calls_main.proofs.run.Statement.{statement}
 use Rattle.calls_main.proofs.run.Tie as tie
 
 abbrev Inv-loop : tie.InvT-loop
-Inv-loop text desk₀ at₀ desk at = 0 ≤ at
+Inv-loop text cells₀ had₀ desk₀ at₀ cells had desk at = (length cells ≡ length cells₀) × (length had ≡ length had₀)
 
 abbrev μ-loop : tie.MeasureT-loop
-μ-loop text desk₀ at₀ desk at = length text - at
+μ-loop text cells₀ had₀ desk₀ at₀ cells had desk at = length text - at
+
+slice-aggregate-fresh : tie.Need-slice-aggregate-fresh Inv-loop μ-loop
+slice-aggregate-fresh c = search needs
+
+fresh-requires : tie.Need-fresh-requires Inv-loop μ-loop
+fresh-requires c κs = search needs
 
 loop-holds : tie.Need-loop-holds Inv-loop μ-loop
 loop-holds c = search needs
 
-line-end-requires : tie.Need-line-end-requires Inv-loop μ-loop
-line-end-requires c κs = search needs
+next-requires : tie.Need-next-requires Inv-loop μ-loop
+next-requires c κs = search needs
+
+sub-write-all : tie.Need-sub-write-all Inv-loop μ-loop
+sub-write-all c = search needs
+
+part-write-all-start : tie.Need-part-write-all-start Inv-loop μ-loop
+part-write-all-start c = search needs
+
+part-write-all-end : tie.Need-part-write-all-end Inv-loop μ-loop
+part-write-all-end c = search needs
+
+write-all-requires : tie.Need-write-all-requires Inv-loop μ-loop
+write-all-requires c κs = search needs
 
 sub-step : tie.Need-sub-step Inv-loop μ-loop
 sub-step c = search needs
@@ -42,6 +61,12 @@ loop-less c = search needs
 loop-again : tie.Need-loop-again Inv-loop μ-loop
 loop-again c = search needs
 
+same-length : tie.Need-same-length Inv-loop μ-loop
+same-length c = search needs
+
+same-length-2 : tie.Need-same-length-2 Inv-loop μ-loop
+same-length-2 c = search needs
+
 returns : tie.Need-returns Inv-loop μ-loop
 returns c = search needs
 
@@ -51,8 +76,14 @@ run-spec =
     (tie.spec
     Inv-loop
     μ-loop
+    slice-aggregate-fresh
+    fresh-requires
     loop-holds
-    line-end-requires
+    next-requires
+    sub-write-all
+    part-write-all-start
+    part-write-all-end
+    write-all-requires
     sub-step
     part-step-start
     part-step-end
@@ -61,4 +92,6 @@ run-spec =
     add-at
     loop-less
     loop-again
+    same-length
+    same-length-2
     returns)

@@ -7,28 +7,28 @@ use Rattle.calls_main.proofs.script.number.Statement.{statement}
 use Rattle.calls_main.proofs.script.number.Tie as tie
 
 abbrev Inv-loop : tie.InvT-loop
-Inv-loop line n size₀ k₀ size k = 0 ≤ k
+Inv-loop word n₀ k₀ n k = 0 ≤ k
 
 abbrev μ-loop : tie.MeasureT-loop
-μ-loop line n size₀ k₀ size k = length line - k
-
-word-requires : tie.Need-word-requires Inv-loop μ-loop
-word-requires c κs = search needs
+μ-loop word n₀ k₀ n k = length word - k
 
 loop-holds : tie.Need-loop-holds Inv-loop μ-loop
 loop-holds c = search needs
-
-shared-slice-read-if1 : tie.Need-shared-slice-read-if1 Inv-loop μ-loop
-shared-slice-read-if1 c = search needs
-
-returns : tie.Need-returns Inv-loop μ-loop
-returns c = search needs
 
 shared-slice-read-with-digit : tie.Need-shared-slice-read-with-digit Inv-loop μ-loop
 shared-slice-read-with-digit c = search needs
 
 with-digit-requires : tie.Need-with-digit-requires Inv-loop μ-loop
 with-digit-requires c κs = search needs
+
+enum-known-more : tie.Need-enum-known-more Inv-loop μ-loop
+enum-known-more c = search needs
+
+enum-told : tie.Need-enum-told Inv-loop μ-loop
+enum-told c = search needs
+
+returns : tie.Need-returns Inv-loop μ-loop
+returns c = search needs
 
 add-k : tie.Need-add-k Inv-loop μ-loop
 add-k c = search needs
@@ -42,19 +42,23 @@ loop-again c = search needs
 returns-2 : tie.Need-returns-2 Inv-loop μ-loop
 returns-2 c = search needs
 
+returns-3 : tie.Need-returns-3 Inv-loop μ-loop
+returns-3 c = search needs
+
 pub number-spec : {M : Type 1} → statement M
 number-spec =
     tie.close
     (tie.spec
     Inv-loop
     μ-loop
-    word-requires
     loop-holds
-    shared-slice-read-if1
-    returns
     shared-slice-read-with-digit
     with-digit-requires
+    enum-known-more
+    enum-told
+    returns
     add-k
     loop-less
     loop-again
-    returns-2)
+    returns-2
+    returns-3)

@@ -1,16 +1,16 @@
--- `calls_main::script::line_end` is safe and ends.
+-- `calls_main::script::next` is safe and ends.
 -- Assumes nothing.
 use Prim.Native.Nat.{_≤_, _-_}
 use lib.ListN.{length}
 use borrow.Author.Needs.{needs}
-use Rattle.calls_main.proofs.script.line_end.Statement.{statement}
-use Rattle.calls_main.proofs.script.line_end.Tie as tie
+use Rattle.calls_main.proofs.script.next.Statement.{statement}
+use Rattle.calls_main.proofs.script.next.Tie as tie
 
 abbrev Inv-loop : tie.InvT-loop
-Inv-loop text at k₀ k = (at ≤ k) × (k ≤ length text)
+Inv-loop text at byte k₀ k = (at ≤ k) × (k ≤ length text)
 
 abbrev μ-loop : tie.MeasureT-loop
-μ-loop text at k₀ k = length text - k
+μ-loop text at byte k₀ k = length text - k
 
 loop-holds : tie.Need-loop-holds Inv-loop μ-loop
 loop-holds c = search needs
@@ -33,8 +33,8 @@ loop-again c = search needs
 returns-2 : tie.Need-returns-2 Inv-loop μ-loop
 returns-2 c = search needs
 
-pub line-end-spec : {M : Type 1} → statement M
-line-end-spec =
+pub next-spec : {M : Type 1} → statement M
+next-spec =
     tie.close
     (tie.spec
     Inv-loop

@@ -1,10 +1,10 @@
--- `calls_main::script::word` is safe and ends.
+-- `calls_main::script::start` is safe and ends.
 -- Assumes nothing.
 use Prim.Native.Nat.{_≤_, _-_}
 use lib.ListN.{length}
 use borrow.Author.Needs.{needs}
-use Rattle.calls_main.proofs.script.word.Statement.{statement}
-use Rattle.calls_main.proofs.script.word.Tie as tie
+use Rattle.calls_main.proofs.script.start.Statement.{statement}
+use Rattle.calls_main.proofs.script.start.Tie as tie
 
 abbrev Inv-loop : tie.InvT-loop
 Inv-loop line n left₀ k₀ left k = k ≤ length line
@@ -36,8 +36,8 @@ loop-again c = search needs
 returns-2 : tie.Need-returns-2 Inv-loop μ-loop
 returns-2 c = search needs
 
-pub word-spec : {M : Type 1} → statement M
-word-spec =
+pub start-spec : {M : Type 1} → statement M
+start-spec =
     tie.close
     (tie.spec
     Inv-loop

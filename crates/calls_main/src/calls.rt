@@ -1,0 +1,103 @@
+// The calls of a script, each with its answer printed.
+use crate::lent;
+use crate::lines::Bytes;
+use crate::lines::Call;
+use crate::lines::bytes_of;
+use crate::shows::print_bytes;
+use crate::shows::print_driven;
+use crate::shows::print_fed;
+use crate::shows::print_picked;
+use crate::shows::print_ran;
+use crate::shows::print_relieved;
+use crate::shows::print_taken;
+use lane::Fed;
+use lane::Lane;
+use lane::Picked;
+use lane::Taken;
+
+// ---- what is handed back: the answer is printed, the lane goes on
+fn picked(picked: Picked) -> Lane {
+    let answer = picked.answer;
+    print_picked(answer);
+    picked.lane
+}
+
+fn fed(fed: Fed) -> Lane {
+    let answer = fed.answer;
+    print_fed(answer);
+    fed.lane
+}
+
+fn taken(taken: Taken) -> Lane {
+    let answer = taken.answer;
+    print_taken(answer);
+    taken.lane
+}
+
+// ---- calls with a buffer, bytes or a number of picks
+fn relieve_into(lane: Lane, buffer: &mut [u8]) -> Lane {
+    let relieved = relief::relieve(lane, buffer);
+    let answer = relieved.answer;
+    print_relieved(answer);
+    print_bytes(buffer);
+    relieved.lane
+}
+
+// Each byte of the buffer is 99 before.
+fn relieve(lane: Lane, n: usize) -> Lane {
+    let mut buffer = [99u8; 32];
+    let start = 0;
+    if 32 < n {
+        return lane;
+    }
+    relieve_into(lane, &mut buffer[start..n])
+}
+
+// The bytes stand in the line.
+fn run(lane: Lane, cells: &mut [i32], line: &[u8]) -> Lane {
+    let mut bytes = [0u8; 256];
+    let Bytes::Are(n) = bytes_of(line, &mut bytes) else {
+        return lane;
+    };
+    if 256 < n {
+        return lane;
+    }
+    let start = 0;
+    let ran = schedule::run(lane, cells, &bytes[start..n]);
+    let answer = ran.answer;
+    print_ran(answer);
+    ran.lane
+}
+
+fn drive(lane: Lane, cells: &mut [i32], picks: u64) -> Lane {
+    let driven = schedule::drive(lane, cells, picks);
+    let answer = driven.answer;
+    print_driven(answer);
+    driven.lane
+}
+
+// ---- every call
+fn called(lane: Lane, cells: &mut [i32], call: Call, line: &[u8]) -> Lane {
+    match call {
+        Call::Pick(p) => picked(lane_calls::pick(lane, cells, p)),
+        Call::Feed(c, v) => fed(lane_calls::feed(lane, cells, c, v)),
+        Call::Close(c) => fed(lane_calls::close(lane, c)),
+        Call::Take(c) => taken(lane_calls::take(lane, cells, c)),
+        Call::LentPick(p) => picked(lent::pick(lane, cells, p)),
+        Call::LentFeed(c, v) => fed(lent::feed(lane, cells, c, v)),
+        Call::LentTake(c) => taken(lent::take(lane, cells, c)),
+        Call::Relieve(n) => relieve(lane, n),
+        Call::Run => run(lane, cells, line),
+        Call::Drive(picks) => drive(lane, cells, picks),
+        Call::Bad => lane,
+    }
+}
+
+// A call that is lent the first `room` cells.
+pub fn called_in(lane: Lane, cells: &mut [i32], room: usize, call: Call, line: &[u8]) -> Lane {
+    let start = 0;
+    if cells.len() < room {
+        return lane;
+    }
+    called(lane, &mut cells[start..room], call, line)
+}
