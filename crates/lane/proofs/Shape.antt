@@ -1,4 +1,4 @@
--- The lengths of a lane's arrays, which every value of the record has in code.
+-- The lengths of a lane's arrays stay what they are.
 -- Assumes nothing.
 use mathlib.Core.Path.{_≡_, refl, ap, _∙_}
 use mathlib.Core.List.{List, [], _∷_}
@@ -8,15 +8,10 @@ use Rattle.network.specs.declared.Network.{Network}
 use Rattle.process.specs.Process.{Process}
 use Rattle.process.specs.declared.Channel.{Channel}
 use Rattle.lane.specs.declared.Lane.{Lane}
+pub use Rattle.lane.specs.State.{Shaped}
 use Rattle.lane.specs.State.{putProcess, putChannel, putChannels, count}
 use Rattle.lane.specs.Pick.{dropFrom}
 use Rattle.lane.proofs.Windows.{length-put}
-
--- a lane's own arrays
-pub record Shaped (l : Lane) : Type 0 where
-  pub registers : length (l .registers) ≡ 128
-  pub processes : length (l .processes) ≡ 16
-  pub channels : length (l .channels) ≡ 32
 
 -- a process put back
 pub put-process-shaped : (p : ℕ) (q : Process) (l : Lane) → Shaped l → Shaped (putProcess p q l)

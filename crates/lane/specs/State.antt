@@ -1,9 +1,10 @@
 -- Document 01, "The lane in operation": a lane with its cells, its parts, and the lane at the start.
 -- Assumes nothing.
+use mathlib.Core.Path.{_≡_}
 use mathlib.Core.Bool.{Bool, true, false, cond}
 use mathlib.Core.List.{List}
 use Prim.Native.Nat.{ℕ, _+_, _*_}
-use lib.ListN.{getD, set, replicate}
+use lib.ListN.{length, getD, set, replicate}
 use lib.Dec.{ltb}
 use lib.IntN.{ℤ, pos}
 use Rattle.base.specs.Lists.{table}
@@ -30,6 +31,13 @@ world l cells = record { lane = l; cells = cells }
 
 abbrev pub cellAt : World → ℕ → ℤ
 cellAt w i = getD (w .cells) i (pos 0)
+
+-- The arrays of a lane have their lengths. Every value of the declared record has this shape, and the definitions speak of lists; nobody has to show it
+-- to make a call.
+pub record Shaped (l : Lane) : Type 0 where
+  pub registers : length (l .registers) ≡ 128
+  pub processes : length (l .processes) ≡ 16
+  pub channels : length (l .channels) ≡ 32
 
 -- ---- processes
 -- "At the start all 128 registers and all counts are zero": a process there, and what stands past the end of the list

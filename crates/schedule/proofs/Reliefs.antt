@@ -11,8 +11,7 @@ use lib.Dec.{eqb}
 use lib.ListN.{length, getD, replicate}
 use Rattle.network.specs.declared.Network.{Network}
 use Rattle.network.proofs.Passed.{passed}
-use Rattle.lane.specs.State.{World}
-use Rattle.lane.proofs.Shape.{Shaped}
+use Rattle.lane.specs.State.{World, Shaped}
 use Rattle.lane.proofs.SoundLaws.{sound-says}
 use Rattle.lane.specs.Calls.{cellsWrong, unsound}
 use Rattle.relief.specs.Relief.{NoOther}
@@ -73,13 +72,12 @@ module _ (n : Network) where
       let t = ready-round r s in
       ((λ e. ready-answers (round r .world) t), λ e. in-rounds k (leftAfter (round r)) (ready-after (round r) t))
 
--- ---- from the tests on. The arrays of a lane have their lengths in code.
-module _ (w : World) (shaped : Shaped (w .lane)) where
-  ready : cellsWrong w ≡ false → unsound w ≡ false → Ready (w .lane .network) w
-  ready e f = record { same = refl; long = eqb-true _ _ (not-false _ e); shaped = shaped; sound = not-false _ f }
+-- ---- from the tests on
+ready : (w : World) → Shaped (w .lane) → cellsWrong w ≡ false → unsound w ≡ false → Ready (w .lane .network) w
+ready w shaped e f = record { same = refl; long = eqb-true _ _ (not-false _ e); shaped = shaped; sound = not-false _ f }
 
-  pub run-no-other : (bytes : List ℕ) → InRun bytes w
-  run-no-other bytes e f g = in-bytes (w .lane .network) bytes (begun w) (all-named bytes w g) (ready e f)
+pub run-no-other : (bytes : List ℕ) (w : World) → InRun bytes w
+run-no-other bytes w shaped e f g = in-bytes (w .lane .network) bytes (begun w) (all-named bytes w g) (ready w shaped e f)
 
-  pub drive-no-other : (budget : ℕ) → InDrive budget w
-  drive-no-other budget e f = in-rounds (w .lane .network) (budget / (w .lane .network .processes)) (begun w) (ready e f)
+pub drive-no-other : (budget : ℕ) (w : World) → InDrive budget w
+drive-no-other budget w shaped e f = in-rounds (w .lane .network) (budget / (w .lane .network .processes)) (begun w) (ready w shaped e f)

@@ -5,7 +5,7 @@ use mathlib.Core.Path.{_≡_}
 use mathlib.Core.Bool.{false}
 use mathlib.Core.List.{List, [], _∷_}
 use Prim.Native.Nat.{ℕ, zero, suc, _/_}
-use Rattle.lane.specs.State.{World}
+use Rattle.lane.specs.State.{World, Shaped}
 use Rattle.lane.specs.Calls.{cellsWrong, unsound}
 use Rattle.relief.specs.Relief.{NoOther}
 use Rattle.schedule.specs.Running.{Running, begun, reliefIn}
@@ -24,8 +24,8 @@ InRounds (suc k) r = (round r .moved ≡ 0 → NoOther (reliefIn (round r .world
 
 -- a run that is not refused (`run-no-other` of proofs/Reliefs.antt)
 abbrev pub InRun : List ℕ → World → Type 0
-InRun bytes w = cellsWrong w ≡ false → unsound w ≡ false → someUnnamed bytes w ≡ false → InBytes bytes (begun w)
+InRun bytes w = Shaped (w .lane) → cellsWrong w ≡ false → unsound w ≡ false → someUnnamed bytes w ≡ false → InBytes bytes (begun w)
 
 -- a drive that is not refused (`drive-no-other` of proofs/Reliefs.antt)
 abbrev pub InDrive : ℕ → World → Type 0
-InDrive budget w = cellsWrong w ≡ false → unsound w ≡ false → InRounds (budget / (w .lane .network .processes)) (begun w)
+InDrive budget w = Shaped (w .lane) → cellsWrong w ≡ false → unsound w ≡ false → InRounds (budget / (w .lane .network .processes)) (begun w)
