@@ -34,7 +34,7 @@ pub enum Edit {
     Bad,
 }
 
-// ---- an edit in words. The forms have their numbers, and `within` has tested them: the remainders change none.
+// ---- an edit in words. Its numbers are those of its form, and `within` has tested them, so that no remainder changes one.
 fn within(words: &[u8], n: usize, most: u64) -> bool {
     number_at(words, n) <= most
 }
@@ -230,7 +230,7 @@ pub fn edited(lane: Lane, edit: Edit) -> Lane {
     l
 }
 
-// An edit of a cell; of cells no other edit changes any.
+// The value of an edit of a cell goes there; every other edit leaves the cells alone.
 pub fn put(cells: &mut [i32], edit: Edit) {
     if let Edit::Cell(k, v) = edit {
         if k < cells.len() {
@@ -239,7 +239,7 @@ pub fn put(cells: &mut [i32], edit: Edit) {
     }
 }
 
-// The edit of a cell that undoes this one.
+// The edit that makes that cell again what it is now; for another edit, one that does nothing.
 pub fn undoing(cells: &[i32], edit: Edit) -> Edit {
     if let Edit::Cell(k, _) = edit {
         if k < cells.len() {

@@ -25,7 +25,7 @@ pub enum Call {
     Bad,
 }
 
-// The name of a file stays in the line.
+// A line by what it asks for. The name of a file stays in it.
 pub enum Line {
     Note,
     Lane,
@@ -141,7 +141,7 @@ fn room_of(line: &[u8]) -> Line {
     Line::Bad
 }
 
-// A word and the rest of the line, which is not empty.
+// This is the first word of the line, and something stands after it and a space.
 fn begins(line: &[u8], name: &[u8]) -> bool {
     check::same(word(line, 0), name) && name.len() + 1 < line.len()
 }

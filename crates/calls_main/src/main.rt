@@ -53,7 +53,7 @@ fn fresh(file: &[u8]) -> Lane {
     lane_sound::fresh(reading.network)
 }
 
-// A file has one byte more than the longest that is taken, so that a longer one is seen.
+// The fresh lane of a file of this folder. The buffer has one byte more than the longest file that is taken, so that a longer one is seen.
 fn start(cells: &mut [i32], name: &[u8]) -> Desk {
     let mut file = [0u8; 4609];
     let n = files::load(name, &mut file);
