@@ -85,7 +85,7 @@ returns-2 c net f k p =
 returns-3 : tie.Need-returns-3 Inv-loop μ-loop
 returns-3 c net f k p =
     let t = c .before .before .before in
-    wrong t (rw (starts (c .before .before), sym (counts t), le-leb _ _ (c .before .if2 .left), lt-leb _ _ (c .if3 .taken))) ∙ slots-of _ _ _ net f k p
+    wrong t (rw (starts (c .before .before), sym (counts t), le-leb _ _ (c .before .if2 .left), lt-leb (t .word2 .result) 256 (omega (arith, c .if3 .taken)))) ∙ slots-of _ _ _ net f k p
 
 add-due : tie.Need-add-due Inv-loop μ-loop
 add-due c = search needs
@@ -101,7 +101,7 @@ loop-again c =
     let t = c .before .before .before in
     let l = head t .loop in
     let n = made (head t) in (
-      on (λ k. need (slotRight n k) k) (l .p) (n .processes) (omega arith) (rw (starts (c .before .before), sym (counts t), le-leb _ _ (c .before .if2 .left), le-leb _ _ (c .if3 .left)))
+      on (λ k. need (slotRight n k) k) (l .p) (n .processes) (omega arith) (rw (starts (c .before .before), sym (counts t), le-leb _ _ (c .before .if2 .left), le-leb (t .word2 .result) 256 (omega (arith, c .if3 .left))))
           ∙ l .inv .0,
       rw (t .before .before .word .ensures .0, counts t) (sym (due-next n (l .p))),
     )
