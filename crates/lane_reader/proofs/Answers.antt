@@ -3,7 +3,7 @@
 use mathlib.Core.Path.{_≡_}
 use mathlib.Core.Bool.{true}
 use mathlib.Core.List.{List}
-use Prim.Native.Nat.{ℕ, _-_, _/_, _%_, _≤_}
+use Prim.Native.Nat.{ℕ, _≤_}
 use borrow.Author.Tests.{eqb-true}
 use native.Mathlib.Omega.{arith}
 use lib.Dec.{eqb}
@@ -12,28 +12,14 @@ use Rattle.base.specs.declared.Refusal.{Refusal}
 use Rattle.base.specs.declared.Verdict.{Verdict}
 use Rattle.base.specs.declared.Verdict.the-variants.{Good, Bad}
 use Rattle.base.specs.Refusals.{numberOf}
-use Rattle.base.specs.Tests.{need, between}
+use Rattle.base.specs.Tests.{need}
 use Rattle.base.proofs.Tests.{both, need-true}
 use Rattle.network.specs.declared.Network.{Network}
 use Rattle.network.specs.Rules.{slots, total, blocksFor, records, instructions}
-use Rattle.base.proofs.Conjunction.{both-true, between-true}
 use Rattle.lane_file.specs.declared.Answer.the-variants.{Accepted, Refused}
 use Rattle.lane_file.specs.declared.Reading.{Reading}
 use Rattle.lane_file.specs.Read.{networkOf, lengthRight, checks, header, slotsIn, restIn, Told, accepted, refused, unless, answerIn, noNetwork, readOf, resultOf}
 use Rattle.lane_file.proofs.Verdicts.{passing}
-
--- ---- 1
-pub record Sized (n : ℕ) : Type 0 where
-  pub whole : n % 512 ≡ 0
-  pub low : 1024 ≤ n
-  pub high : n ≤ 4608
-
-pub sized : (n : ℕ) → lengthRight n ≡ true → Sized n
-sized n e =
-    let b = both-true (eqb (n % 512) 0) (between 2 (n / 512) 9) e in
-    let d = between-true 2 (n / 512) 9 (b .1) in
-    let z = eqb-true (n % 512) 0 (b .0) in
-    record { whole = z; low = omega arith; high = omega arith }
 
 -- ---- 4
 pub record Slotted (n : Network) : Type 0 where

@@ -10,7 +10,8 @@ use lib.ListN.{length}
 use Rattle.lane_file.proofs.Verdicts.{headed}
 use Rattle.base.specs.declared.Verdict.the-variants.{Good}
 use Rattle.lane_file.specs.Read.{networkOf, lengthRight, checks, header, told}
-use Rattle.lane_reader.proofs.Answers.{sized, first-told, first-refused, first-passed, result-refused, result-accepted}
+use Rattle.file_blocks.proofs.Sized.{sized}
+use Rattle.lane_reader.proofs.Answers.{first-told, first-refused, first-passed, result-refused, result-accepted}
 use Rattle.lane_reader.proofs.read.Statement.{statement}
 use Rattle.lane_reader.proofs.read.Tie as tie
 

@@ -1,8 +1,8 @@
--- `lane_reader::length_right` meets its contract: each return rewrites by the tests that led there.
+-- `file_blocks::length_right` meets its contract: each return rewrites by the tests that led there.
 -- Assumes nothing.
 use borrow.Author.Tests.{le-leb, lt-leb, eq-eqb, ne-eqb}
-use Rattle.lane_reader.proofs.length_right.Statement.{statement}
-use Rattle.lane_reader.proofs.length_right.Tie as tie
+use Rattle.file_blocks.proofs.length_right.Statement.{statement}
+use Rattle.file_blocks.proofs.length_right.Tie as tie
 
 returns : tie.Need-returns
 returns c = rw (ne-eqb _ _ (c .if1 .taken))

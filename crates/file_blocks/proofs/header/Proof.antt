@@ -1,11 +1,11 @@
--- `lane_reader::header` meets its contract: each return rewrites by the tests that led there.
+-- `file_blocks::header` meets its contract: each return rewrites by the tests that led there.
 -- Assumes nothing.
 use native.Mathlib.Omega.{arith}
 use borrow.Author.Needs.{needs}
 use borrow.Author.Tests.{le-leb, lt-leb, eq-eqb, ne-eqb}
 use Rattle.lane_file.specs.Read.{header}
-use Rattle.lane_reader.proofs.header.Statement.{statement}
-use Rattle.lane_reader.proofs.header.Tie as tie
+use Rattle.file_blocks.proofs.header.Statement.{statement}
+use Rattle.file_blocks.proofs.header.Tie as tie
 
 shared-slice-read-if1 : tie.Need-shared-slice-read-if1
 shared-slice-read-if1 c = search needs

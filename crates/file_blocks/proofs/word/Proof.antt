@@ -1,10 +1,10 @@
--- `lane_reader::word` meets its contract: two bytes make a number below 65,536.
+-- `file_blocks::word` meets its contract: two bytes make a number below 65,536.
 -- Assumes nothing.
 use Prim.Native.Nat.{_+_}
 use native.Mathlib.Omega.{arith}
 use borrow.Author.Needs.{needs}
-use Rattle.lane_reader.proofs.word.Statement.{statement}
-use Rattle.lane_reader.proofs.word.Tie as tie
+use Rattle.file_blocks.proofs.word.Statement.{statement}
+use Rattle.file_blocks.proofs.word.Tie as tie
 
 shared-slice-read-result : tie.Need-shared-slice-read-result
 shared-slice-read-result c = search needs

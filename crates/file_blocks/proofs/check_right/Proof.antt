@@ -1,4 +1,4 @@
--- `lane_reader::check_right` meets its contract: the word behind the 510 bytes against their check.
+-- `file_blocks::check_right` meets its contract: the word behind the 510 bytes against their check.
 -- Assumes nothing.
 use mathlib.Core.Path.{_≡_}
 use Prim.Native.Nat.{_+_, _-_, _*_}
@@ -6,8 +6,8 @@ use native.Mathlib.Omega.{arith}
 use borrow.Author.Needs.{needs}
 use lib.ListN.{take, drop}
 use Rattle.block_check.specs.Crc.{crc}
-use Rattle.lane_reader.proofs.check_right.Statement.{statement}
-use Rattle.lane_reader.proofs.check_right.Tie as tie
+use Rattle.file_blocks.proofs.check_right.Statement.{statement}
+use Rattle.file_blocks.proofs.check_right.Tie as tie
 
 mul-at : tie.Need-mul-at
 mul-at c = search needs

@@ -1,17 +1,17 @@
--- `lane_reader::record_words` meets its contract. The loop's invariant: the elements passed are the words of the records.
+-- `file_blocks::record_bytes` meets its contract. The loop's invariant: the elements passed are the bytes of the records.
 -- Assumes nothing.
-use mathlib.Core.Path.{_≡_}
+use mathlib.Core.Path.{_≡_, refl}
 use Prim.Native.Nat.{_+_, _*_, _≤_, _-_}
 use native.Mathlib.Omega.{arith}
 use borrow.Author.Needs.{needs}
-use Rattle.base.specs.Lists.{wordAt}
+use lib.ListN.{getD}
 use Rattle.base.proofs.Lists.{Filled, filled-none, filled-more, filled-all}
-use Rattle.lane_reader.proofs.Filling.{blank, length-blank}
-use Rattle.lane_reader.proofs.record_words.Statement.{statement}
-use Rattle.lane_reader.proofs.record_words.Tie as tie
+use Rattle.file_blocks.proofs.Filling.{blank, length-blank}
+use Rattle.file_blocks.proofs.record_bytes.Statement.{statement}
+use Rattle.file_blocks.proofs.record_bytes.Tie as tie
 
 abbrev Inv-loop : tie.InvT-loop
-Inv-loop s at a₀ c₀ a c = (c ≤ 32) × Filled (λ k. wordAt s (at + 4 * k)) 0 (blank 32) c a
+Inv-loop s at a₀ c₀ a c = (c ≤ 32) × Filled (λ k. getD s (at + 4 * k) 0) 0 (blank 32) c a
 
 abbrev μ-loop : tie.MeasureT-loop
 μ-loop s at a₀ c₀ a c = 32 - c
@@ -20,17 +20,14 @@ loop-holds : tie.Need-loop-holds Inv-loop μ-loop
 unfolding blank
 loop-holds c = (search needs, filled-none _ 0 (blank 32))
 
-mul-word : tie.Need-mul-word Inv-loop μ-loop
-mul-word c = search needs
-
-add-word : tie.Need-add-word Inv-loop μ-loop
-add-word c = search needs
-
-word-requires : tie.Need-word-requires Inv-loop μ-loop
-word-requires c κs = search needs
-
 mul-a : tie.Need-mul-a Inv-loop μ-loop
 mul-a c = search needs
+
+add-a : tie.Need-add-a Inv-loop μ-loop
+add-a c = search needs
+
+shared-slice-read-a : tie.Need-shared-slice-read-a Inv-loop μ-loop
+shared-slice-read-a c = search needs
 
 array-write-a : tie.Need-array-write-a Inv-loop μ-loop
 array-write-a c = search needs
@@ -44,7 +41,7 @@ loop-less c = search needs
 loop-again : tie.Need-loop-again Inv-loop μ-loop
 loop-again c =
     let l = c .before .before .loop in
-    (search needs, filled-more _ 0 (blank 32) (l .c) (l .a) _ (omega (arith, l .inv .1 .long, length-blank 32)) (c .word .ensures) (l .inv .1))
+    (search needs, filled-more _ 0 (blank 32) (l .c) (l .a) _ (omega (arith, l .inv .1 .long, length-blank 32)) refl (l .inv .1))
 
 returns : tie.Need-returns Inv-loop μ-loop
 returns c =
@@ -52,17 +49,16 @@ returns c =
     let e : l .c ≡ 32 = omega arith in
     filled-all _ 0 (blank 32) 32 (l .a) (length-blank 32) (rw e at (l .inv .1))
 
-pub record-words-spec : {M : Type 1} → statement M
-record-words-spec =
+pub record-bytes-spec : {M : Type 1} → statement M
+record-bytes-spec =
     tie.close
     (tie.spec
     Inv-loop
     μ-loop
     loop-holds
-    mul-word
-    add-word
-    word-requires
     mul-a
+    add-a
+    shared-slice-read-a
     array-write-a
     add-c
     loop-less

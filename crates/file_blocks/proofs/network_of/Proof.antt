@@ -1,10 +1,10 @@
--- `lane_reader::network_of` meets its contract, field by field.
+-- `file_blocks::network_of` meets its contract, field by field.
 -- Assumes nothing.
 use native.Mathlib.Omega.{arith}
 use borrow.Author.Needs.{needs}
 use Rattle.lane_file.specs.Read.{networkOf}
-use Rattle.lane_reader.proofs.network_of.Statement.{statement}
-use Rattle.lane_reader.proofs.network_of.Tie as tie
+use Rattle.file_blocks.proofs.network_of.Statement.{statement}
+use Rattle.file_blocks.proofs.network_of.Tie as tie
 
 shared-slice-read-t3 : tie.Need-shared-slice-read-t3
 shared-slice-read-t3 c = search needs

@@ -1,4 +1,4 @@
--- `lane_reader::opened` meets its contract: each return rewrites by the tests that led there.
+-- `file_blocks::opened` meets its contract: each return rewrites by the tests that led there.
 -- Assumes nothing.
 use mathlib.Core.Path.{_≡_, sym, _∙_}
 use mathlib.Core.Bool.{true}
@@ -6,9 +6,9 @@ use borrow.Author.Needs.{needs}
 use borrow.Author.Tests.{not-true, not-false}
 use lib.ListN.{length}
 use Rattle.lane_file.specs.Read.{lengthRight}
-use Rattle.lane_reader.proofs.Answers.{sized}
-use Rattle.lane_reader.proofs.opened.Statement.{statement}
-use Rattle.lane_reader.proofs.opened.Tie as tie
+use Rattle.file_blocks.proofs.Sized.{sized}
+use Rattle.file_blocks.proofs.opened.Statement.{statement}
+use Rattle.file_blocks.proofs.opened.Tie as tie
 
 length-right-requires : tie.Need-length-right-requires
 length-right-requires c κs = search needs

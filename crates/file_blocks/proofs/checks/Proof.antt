@@ -1,4 +1,4 @@
--- `lane_reader::checks` meets its contract. The loop's invariant: the blocks that are left give the answer of all of them.
+-- `file_blocks::checks` meets its contract. The loop's invariant: the blocks that are left give the answer of all of them.
 -- Assumes nothing.
 use mathlib.Core.Path.{_≡_, sym, _∙_}
 use Prim.Native.Nat.{_-_, _/_}
@@ -9,8 +9,8 @@ use lib.ListN.{length}
 use Rattle.base.specs.Tests.{need, firstBad}
 use Rattle.base.proofs.Tests.{on, stop, over}
 use Rattle.lane_file.specs.Read.{checkRight, checks}
-use Rattle.lane_reader.proofs.checks.Statement.{statement}
-use Rattle.lane_reader.proofs.checks.Tie as tie
+use Rattle.file_blocks.proofs.checks.Statement.{statement}
+use Rattle.file_blocks.proofs.checks.Tie as tie
 
 abbrev Inv-loop : tie.InvT-loop
 Inv-loop s blocks k₀ k = firstBad (checkRight s) k (blocks - k) ≡ checks s

@@ -1,4 +1,4 @@
--- `lane_reader::slot_words` meets its contract. The loop's invariant: the elements passed are the words of the slots.
+-- `file_blocks::record_words` meets its contract. The loop's invariant: the elements passed are the words of the records.
 -- Assumes nothing.
 use mathlib.Core.Path.{_≡_}
 use Prim.Native.Nat.{_+_, _*_, _≤_, _-_}
@@ -6,19 +6,19 @@ use native.Mathlib.Omega.{arith}
 use borrow.Author.Needs.{needs}
 use Rattle.base.specs.Lists.{wordAt}
 use Rattle.base.proofs.Lists.{Filled, filled-none, filled-more, filled-all}
-use Rattle.lane_reader.proofs.Filling.{blank, length-blank}
-use Rattle.lane_reader.proofs.slot_words.Statement.{statement}
-use Rattle.lane_reader.proofs.slot_words.Tie as tie
+use Rattle.file_blocks.proofs.Filling.{blank, length-blank}
+use Rattle.file_blocks.proofs.record_words.Statement.{statement}
+use Rattle.file_blocks.proofs.record_words.Tie as tie
 
 abbrev Inv-loop : tie.InvT-loop
-Inv-loop s at a₀ p₀ a p = (p ≤ 16) × Filled (λ k. wordAt s (at + 4 * k)) 0 (blank 16) p a
+Inv-loop s at a₀ c₀ a c = (c ≤ 32) × Filled (λ k. wordAt s (at + 4 * k)) 0 (blank 32) c a
 
 abbrev μ-loop : tie.MeasureT-loop
-μ-loop s at a₀ p₀ a p = 16 - p
+μ-loop s at a₀ c₀ a c = 32 - c
 
 loop-holds : tie.Need-loop-holds Inv-loop μ-loop
 unfolding blank
-loop-holds c = (search needs, filled-none _ 0 (blank 16))
+loop-holds c = (search needs, filled-none _ 0 (blank 32))
 
 mul-word : tie.Need-mul-word Inv-loop μ-loop
 mul-word c = search needs
@@ -35,8 +35,8 @@ mul-a c = search needs
 array-write-a : tie.Need-array-write-a Inv-loop μ-loop
 array-write-a c = search needs
 
-add-p : tie.Need-add-p Inv-loop μ-loop
-add-p c = search needs
+add-c : tie.Need-add-c Inv-loop μ-loop
+add-c c = search needs
 
 loop-less : tie.Need-loop-less Inv-loop μ-loop
 loop-less c = search needs
@@ -44,16 +44,16 @@ loop-less c = search needs
 loop-again : tie.Need-loop-again Inv-loop μ-loop
 loop-again c =
     let l = c .before .before .loop in
-    (search needs, filled-more _ 0 (blank 16) (l .p) (l .a) _ (omega (arith, l .inv .1 .long, length-blank 16)) (c .word .ensures) (l .inv .1))
+    (search needs, filled-more _ 0 (blank 32) (l .c) (l .a) _ (omega (arith, l .inv .1 .long, length-blank 32)) (c .word .ensures) (l .inv .1))
 
 returns : tie.Need-returns Inv-loop μ-loop
 returns c =
     let l = c .before .loop in
-    let e : l .p ≡ 16 = omega arith in
-    filled-all _ 0 (blank 16) 16 (l .a) (length-blank 16) (rw e at (l .inv .1))
+    let e : l .c ≡ 32 = omega arith in
+    filled-all _ 0 (blank 32) 32 (l .a) (length-blank 32) (rw e at (l .inv .1))
 
-pub slot-words-spec : {M : Type 1} → statement M
-slot-words-spec =
+pub record-words-spec : {M : Type 1} → statement M
+record-words-spec =
     tie.close
     (tie.spec
     Inv-loop
@@ -64,7 +64,7 @@ slot-words-spec =
     word-requires
     mul-a
     array-write-a
-    add-p
+    add-c
     loop-less
     loop-again
     returns)

@@ -1,4 +1,4 @@
--- `lane_reader::code` meets its contract. The loop's invariant: the code of the blocks passed is there, the others are zero.
+-- `file_blocks::code` meets its contract. The loop's invariant: the code of the blocks passed is there, the others are zero.
 -- Assumes nothing.
 use mathlib.Core.Path.{_≡_, sym, ap, _∙_}
 use Prim.Native.Nat.{_+_, _*_, _≤_, _-_}
@@ -7,9 +7,9 @@ use borrow.Author.Needs.{needs}
 use lib.ListN.{length, getD, length-take, length-drop}
 use Rattle.base.proofs.Lists.{Filled, filled-none}
 use Rattle.lane_file.specs.Read.{codePlace}
-use Rattle.lane_reader.proofs.Filling.{blank, length-blank, blank-at, length-part, filled-part, filled-rest, code-at, code-past}
-use Rattle.lane_reader.proofs.code.Statement.{statement}
-use Rattle.lane_reader.proofs.code.Tie as tie
+use Rattle.file_blocks.proofs.Filling.{blank, length-blank, blank-at, length-part, filled-part, filled-rest, code-at, code-past}
+use Rattle.file_blocks.proofs.code.Statement.{statement}
+use Rattle.file_blocks.proofs.code.Tie as tie
 
 abbrev Inv-loop : tie.InvT-loop
 Inv-loop s blocks code₀ k₀ code k = (1 ≤ k) × (k ≤ blocks) × Filled (λ j. getD s (codePlace j) 0) 0 (blank 4064) (508 * (k - 1)) code

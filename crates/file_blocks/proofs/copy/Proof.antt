@@ -1,4 +1,4 @@
--- `lane_reader::copy` meets its contract. The loop's invariant: the elements passed are the other slice's, the others as they were.
+-- `file_blocks::copy` meets its contract. The loop's invariant: the elements passed are the other slice's, the others as they were.
 -- Assumes nothing.
 use mathlib.Core.Path.{refl}
 use Prim.Native.Nat.{_≤_, _-_}
@@ -7,8 +7,8 @@ use borrow.Author.Needs.{needs}
 use lib.ListN.{length, getD}
 use lib.Seq.{ext-getD}
 use Rattle.base.proofs.Lists.{Filled, filled-none, filled-more}
-use Rattle.lane_reader.proofs.copy.Statement.{statement}
-use Rattle.lane_reader.proofs.copy.Tie as tie
+use Rattle.file_blocks.proofs.copy.Statement.{statement}
+use Rattle.file_blocks.proofs.copy.Tie as tie
 
 abbrev Inv-loop : tie.InvT-loop
 Inv-loop to₀ from i₀ to i = (i ≤ length to₀) × Filled (λ k. getD from k 0) 0 to₀ i to
