@@ -1,15 +1,15 @@
 // The calls of a script, each with its answer printed.
 use crate::lent;
-use crate::lines::Bytes;
-use crate::lines::Call;
-use crate::lines::bytes_of;
-use crate::shows::print_bytes;
-use crate::shows::print_driven;
-use crate::shows::print_fed;
-use crate::shows::print_picked;
-use crate::shows::print_ran;
-use crate::shows::print_relieved;
-use crate::shows::print_taken;
+use call_prints::shows::print_bytes;
+use call_prints::shows::print_driven;
+use call_prints::shows::print_fed;
+use call_prints::shows::print_picked;
+use call_prints::shows::print_ran;
+use call_prints::shows::print_relieved;
+use call_prints::shows::print_taken;
+use call_scripts::lines::Bytes;
+use call_scripts::lines::Call;
+use call_scripts::lines::bytes_of;
 use lane::Fed;
 use lane::Lane;
 use lane::Picked;

@@ -1,21 +1,19 @@
 // Runs a script of calls on a lane, from standard input, and prints each of its lines, with the answer and all that the call changed
 // (docs/SCRIPTS.md). `stdin` is a script for a person to read, and `stdout` holds what document 01 says that it must answer.
 mod calls;
-mod changes;
 mod edits;
 mod lent;
-mod lines;
-mod script;
-mod shows;
-mod words;
 
-use crate::changes::print_changes;
-use crate::edits::Edit;
-use crate::lines::Call;
-use crate::lines::Line;
-use crate::script::next;
-use crate::script::rest;
-use crate::shows::print;
+use call_prints::changes::print_changes;
+use call_prints::shows;
+use call_prints::shows::print;
+use call_prints::words;
+use call_scripts::edits::Edit;
+use call_scripts::lines;
+use call_scripts::lines::Call;
+use call_scripts::lines::Line;
+use call_scripts::script::next;
+use call_scripts::script::rest;
 use lane::Lane;
 ghost use mathlib.Core.Path.{_≡_};
 ghost use lib.ListN.{length};
