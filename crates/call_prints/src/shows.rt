@@ -1,4 +1,4 @@
-// Answers and parts of a lane, in words.
+// Answers of the calls on a lane, of reading and writing its file, and parts of it, in words.
 use crate::words;
 use base::Refusal;
 use lane::FeedAnswer;
@@ -9,10 +9,6 @@ use lane_file::Answer;
 use lane_file::Written;
 use process::Channel;
 use process::Condition;
-use relief::ReliefAnswer;
-use schedule::DriveAnswer;
-use schedule::End;
-use schedule::RunAnswer;
 
 pub fn print(word: [u8; 16]) {
     let start = 0;
@@ -46,7 +42,7 @@ pub fn print_signed(word: [u8; 16], v: i32) {
 }
 
 // ---- answers
-fn print_refusal(r: Refusal) {
+pub fn print_refusal(r: Refusal) {
     print_number(words::REFUSED, base::number(r) as u64);
 }
 
@@ -72,49 +68,6 @@ pub fn print_taken(answer: TakeAnswer) {
         TakeAnswer::Value(v) => print_signed(words::VALUE, v),
         TakeAnswer::End => print(words::END),
         TakeAnswer::Refused(r) => print_refusal(r),
-    }
-}
-
-pub fn print_relieved(answer: ReliefAnswer) {
-    match answer {
-        ReliefAnswer::Enlarged { length, channel } => {
-            print_number(words::ENLARGED, channel as u64);
-            print_number(words::RING, length as u64);
-        }
-        ReliefAnswer::Refused(r) => print_refusal(r),
-    }
-}
-
-pub fn print_ran(answer: RunAnswer) {
-    match answer {
-        RunAnswer::Ran { moved, enlarged } => {
-            print_number(words::MOVED_SO_MANY, moved);
-            print_number(words::ENLARGED, enlarged);
-        }
-        RunAnswer::Refused(r) => print_refusal(r),
-    }
-}
-
-fn print_end(end: End) {
-    match end {
-        End::Settled => print(words::SETTLED),
-        End::Ceiling => print(words::CEILING),
-        End::Spent => print(words::SPENT),
-    }
-}
-
-pub fn print_driven(answer: DriveAnswer) {
-    match answer {
-        DriveAnswer::Driven {
-            end,
-            picks,
-            enlarged,
-        } => {
-            print_end(end);
-            print_number(words::PICKS, picks);
-            print_number(words::ENLARGED, enlarged);
-        }
-        DriveAnswer::Refused(r) => print_refusal(r),
     }
 }
 

@@ -1,11 +1,11 @@
 // The calls of a script, each with its answer printed.
+use crate::answers::print_driven;
+use crate::answers::print_ran;
+use crate::answers::print_relieved;
 use crate::lent;
 use call_prints::shows::print_bytes;
-use call_prints::shows::print_driven;
 use call_prints::shows::print_fed;
 use call_prints::shows::print_picked;
-use call_prints::shows::print_ran;
-use call_prints::shows::print_relieved;
 use call_prints::shows::print_taken;
 use call_scripts::lines::Bytes;
 use call_scripts::lines::Call;
