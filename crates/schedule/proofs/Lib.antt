@@ -4,3 +4,4 @@ pub mod Stretches
 pub mod Rule
 pub mod Rounds
 pub mod Reliefs
+pub mod Witness
