@@ -1,12 +1,14 @@
--- Laws of integers that the library does not have: induction up and down, cases on a difference, the size of a negated number, the product distributes and associates.
+-- Laws of integers that the library does not have: induction up and down, cases on a difference, the size of a negated number, the product distributes and associates,
+-- a quotient rounded down and what it leaves over.
 -- Assumes nothing.
 use mathlib.Core.Path.{_≡_, refl, sym, ap, _∙_}
 use mathlib.Core.Bool.{Bool, true, false, cond}
-use Prim.Native.Nat.{ℕ, zero, suc, _-_, _<_, _≤_}
+use Prim.Native.Nat.{ℕ, zero, suc, _+_, _-_, _*_, _/_, _%_, _<_, _≤_}
+use native.Mathlib.Nat.{div-add-mod, mod-lt, mul-suc, zero-lt-suc}
 use lib.Dec.{ltb}
 use native.Mathlib.Omega.{arith}
-use lib.IntN.{ℤ, pos, negsuc, sucℤ, predℤ, negℤ, subℕ, _+ℤ_, _-ℤ_, _*ℤ_, +ℤ-idr, +ℤ-comm, +ℤ-assoc, +ℤ-sucℤ, +ℤ-predℤ, -ℤ-+ℤ-cancel, zero-*ℤ, sucℤ-*ℤ, predℤ-*ℤ, negℤ-negℤ}
-use lib.Signed.{mag}
+use lib.IntN.{ℤ, pos, negsuc, sucℤ, predℤ, negℤ, subℕ, _+ℤ_, _-ℤ_, _*ℤ_, +ℤ-idr, +ℤ-comm, +ℤ-assoc, +ℤ-sucℤ, +ℤ-predℤ, +ℤ-negℤ-cancel, -ℤ-+ℤ-cancel, zero-*ℤ, sucℤ-*ℤ, predℤ-*ℤ, negℤ-negℤ}
+use lib.Signed.{mag, shrZ}
 use borrow.Author.Tests.{ltb-true, ltb-false}
 
 pub induct : (P : ℤ → Type 0) → P (pos zero) → ((k : ℤ) → P k → P (sucℤ k)) → ((k : ℤ) → P k → P (predℤ k)) → (k : ℤ) → P k
@@ -74,3 +76,25 @@ carry x y m =
 -- (x + m) + y = (x + y) + m
 pub exchange : (x m y : ℤ) → (x +ℤ m) +ℤ y ≡ (x +ℤ y) +ℤ m
 exchange x m y = +ℤ-assoc x m y ∙ ap (λ u. x +ℤ u) (+ℤ-comm m y) ∙ sym (+ℤ-assoc x y m)
+
+-- what was taken away and added again: from x = a + b, b = x − a
+pub rest-of : (x a b : ℤ) → x ≡ a +ℤ b → x -ℤ a ≡ b
+rest-of x a b e = ap (λ u. u -ℤ a) (e ∙ +ℤ-comm a b) ∙ +ℤ-negℤ-cancel b a
+
+-- ---- by a divisor c + 1 the quotient rounded down leaves over a natural below it
+abbrev pub leftBy : ℤ → ℕ → ℕ
+leftBy (pos a) c = a % suc c
+leftBy (negsuc a) c = c - a % suc c
+
+pub left-below : (x : ℤ) (c : ℕ) → leftBy x c < suc c
+left-below (pos a) c = mod-lt a (omega arith)
+left-below (negsuc a) c = omega arith
+
+owed : (a n : ℕ) → negsuc (a + n) +ℤ pos n ≡ negsuc a
+owed a n = by-difference (λ z. z ≡ negsuc a) n (suc (a + n)) (λ l. ap negsuc (omega arith)) (λ l. absurd (omega arith))
+
+pub down-whole : (x : ℤ) (c : ℕ) → x ≡ pos (suc c) *ℤ shrZ x (suc c) +ℤ pos (leftBy x c)
+down-whole (pos a) c = ap pos (sym (div-add-mod a (suc c)))
+down-whole (negsuc a) c =
+    let e : suc c * suc (a / suc c) ≡ suc (a + (c - a % suc c)) = omega (arith, div-add-mod a (suc c), mod-lt a (zero-lt-suc c), mul-suc (suc c) (a / suc c)) in
+    rw e (sym (owed a (c - a % suc c)))

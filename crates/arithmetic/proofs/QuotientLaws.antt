@@ -1,88 +1,22 @@
--- Laws of quotient and remainder: the answer in each case, that it is a number of 32 bits, and what characterises the two numbers.
+-- Laws of quotient and remainder: they are a division, and the only one; the answer in each case, and that it is a number of 32 bits; how cutting toward
+-- zero is put right.
 -- Assumes nothing.
 use mathlib.Core.Path.{_≡_, refl, sym, ap, subst, _∙_}
-use mathlib.Core.Bool.{Bool, true, false}
+use mathlib.Core.Bool.{Bool, true, false, not}
 use mathlib.Core.Logic.{_⊎_, inl, inr}
 use Prim.Native.Nat.{ℕ, zero, suc, _+_, _*_, _/_, _%_, _<_}
-use native.Mathlib.Nat.{div-le-self, div-lt-self, div-add-mod, mod-lt, mod-one}
+use native.Mathlib.Nat.{div-le-self, div-lt-self, div-add-mod, mod-lt}
 use native.Mathlib.Omega.{arith}
 use lib.Dec.{T}
-use lib.IntN.{ℤ, pos, negsuc, negℤ, natAbs, pos-ne-negsuc, _+ℤ_, _-ℤ_, _*ℤ_, +ℤ-idl, +ℤ-idr, +ℤ-invr, +ℤ-comm, +ℤ-negℤ-cancel, -ℤ-+ℤ-cancel, negℤ-+ℤ, negℤ-negℤ, *ℤ-comm}
-use lib.Signed.{mag, nonNeg, quotZ, remZ, mag-rem}
+use lib.IntN.{ℤ, pos, negsuc, predℤ, negℤ, natAbs, pos-ne-negsuc, _+ℤ_, _-ℤ_, _*ℤ_, +ℤ-idl, +ℤ-idr, +ℤ-invr, +ℤ-comm, +ℤ-assoc, +ℤ-negℤ-cancel, -ℤ-+ℤ-cancel, -ℤ-one, negℤ-+ℤ, negℤ-negℤ, *ℤ-comm, predℤ-*ℤ}
+use lib.Signed.{mag, nonNeg, ltZ, mag-rem, natAbs-le, quotZ, remZ, shrZ}
 use mir.Syntax.{w32}
 use mir.Val.{SFits}
+use borrow.Author.Tests.{ltb-true, lt-ltb, le-ltb}
 use Rattle.arithmetic.specs.Wrap.{residue, centred, wrap}
-use Rattle.arithmetic.specs.Quotient.{Quotient, value, faults, unlessZero, quotientOf, remainderOf}
-use Rattle.arithmetic.proofs.Integers.{by-difference, mag-negate, negate-product, distribute, exchange}
+use Rattle.arithmetic.specs.Quotient.{Quotient, value, faults, unlessZero, floorOf, quotientOf, remainderOf, Division}
+use Rattle.arithmetic.proofs.Integers.{by-difference, mag-negate, negate-product, distribute, carry, exchange, rest-of, leftBy, left-below, down-whole}
 use Rattle.arithmetic.proofs.WrapLaws.{wrap-fits, wrap-same}
-
--- ---- the answers
-pub quotient-zero : (x : ℤ) → quotientOf x (pos 0) ≡ faults
-unfolding quotientOf
-quotient-zero x = refl
-
-pub remainder-zero : (x : ℤ) → remainderOf x (pos 0) ≡ faults
-unfolding remainderOf
-remainder-zero x = refl
-
-unless : (y : ℤ) (d : Quotient) → (y ≡ pos 0 → ⊥) → unlessZero y d ≡ d
-unless (pos zero) d n = absurd (n refl)
-unless (pos (suc k)) d n = refl
-unless (negsuc k) d n = refl
-
-pub quotient-by : (x y : ℤ) → (y ≡ pos 0 → ⊥) → SFits w32 (quotZ x y) → quotientOf x y ≡ value (quotZ x y)
-unfolding quotientOf
-quotient-by x y n h = unless y (value (wrap (quotZ x y))) n ∙ ap value (wrap-same h)
-
-pub remainder-by : (x y : ℤ) → (y ≡ pos 0 → ⊥) → remainderOf x y ≡ value (remZ x y)
-unfolding remainderOf
-remainder-by x y n = unless y (value (remZ x y)) n
-
--- the least number by −1
-pub quotient-least : quotientOf (negsuc 2147483647) (negsuc 0) ≡ value (negsuc 2147483647)
-unfolding quotientOf wrap residue centred
-quotient-least = refl
-
-pub remainder-one : (x : ℤ) → remainderOf x (negsuc 0) ≡ value (pos 0)
-unfolding remainderOf
-remainder-one (pos a) = ap (λ (n : ℕ). value (pos n)) (mod-one a)
-remainder-one (negsuc a) = ap (λ (n : ℕ). value (negℤ (pos n))) (mod-one (suc a))
-
--- ---- they are numbers of 32 bits
-mag-quotient : (x y : ℤ) → mag x < 2147483648 → (x ≡ negsuc 2147483647 → y ≡ negsuc 0 → ⊥) → mag (quotZ x y) < 2147483648
-mag-quotient (pos a) (pos b) h n = omega (arith, div-le-self a b)
-mag-quotient (pos a) (negsuc b) h n = omega (arith, mag-negate (a / suc b) a (omega (arith, div-le-self a (suc b))))
-mag-quotient (negsuc a) (pos b) h n = omega (arith, mag-negate (suc a / b) a (div-le-self (suc a) b))
-mag-quotient (negsuc a) (negsuc zero) h n =
-    let e : a ≡ 2147483647 → ⊥ = λ e. n (ap negsuc e) refl in
-    omega (arith, div-le-self (suc a) 1, e)
-mag-quotient (negsuc a) (negsuc (suc b)) h n = omega (arith, div-lt-self {n = suc a} {k = suc (suc b)} (omega arith) (omega arith))
-
-pub quotient-fits : {x : ℤ} (y : ℤ) → SFits w32 x → (x ≡ negsuc 2147483647 → y ≡ negsuc 0 → ⊥) → SFits w32 (quotZ x y)
-quotient-fits {x} y h n = record { sfits = mag-quotient x y (h .sfits) n }
-
-pub remainder-fits : {x : ℤ} (y : ℤ) → SFits w32 x → SFits w32 (remZ x y)
-remainder-fits {x} y h = record { sfits = omega (arith, h .sfits, mag-rem x y) }
-
--- so is every number that is answered
-answered : (y q a : ℤ) → unlessZero y (value a) ≡ value q → SFits w32 a → SFits w32 q
-answered (pos zero) q a e h = let z : _≡_ {A = ℕ} 0 1 = cc in absurd (omega arith)
-answered (pos (suc n)) q a e h = let z : a ≡ q = cc in subst (SFits w32) z h
-answered (negsuc n) q a e h = let z : a ≡ q = cc in subst (SFits w32) z h
-
-pub quotient-answer-fits : (x y : ℤ) {q : ℤ} → quotientOf x y ≡ value q → SFits w32 q
-unfolding quotientOf
-quotient-answer-fits x y {q} e = answered y q (wrap (quotZ x y)) e (wrap-fits (quotZ x y))
-
-pub remainder-answer-fits : {x : ℤ} (y : ℤ) {r : ℤ} → SFits w32 x → remainderOf x y ≡ value r → SFits w32 r
-unfolding remainderOf
-remainder-answer-fits {x} y {r} h e = answered y r (remZ x y) e (remainder-fits y h)
-
--- ---- what characterises them: x = y q + r, |r| < |y|, and r is zero or has the sign of x
-pub record Division (x y q r : ℤ) : Type 0 where
-  pub whole : x ≡ y *ℤ q +ℤ r
-  pub small : natAbs r < natAbs y
-  pub sign : (r ≡ pos 0) ⊎ (nonNeg r ≡ nonNeg x)
 
 negate-right : (x y : ℤ) → x *ℤ negℤ y ≡ negℤ (x *ℤ y)
 negate-right x y = *ℤ-comm x (negℤ y) ∙ negate-product y x ∙ ap negℤ (*ℤ-comm y x)
@@ -90,43 +24,40 @@ negate-right x y = *ℤ-comm x (negℤ y) ∙ negate-product y x ∙ ap negℤ (
 negate-both : (x y : ℤ) → negℤ x *ℤ negℤ y ≡ x *ℤ y
 negate-both x y = negate-product x (negℤ y) ∙ ap negℤ (negate-right x y) ∙ negℤ-negℤ (x *ℤ y)
 
--- −(m (n / m) + n % m) = −n
-negative : (n m : ℕ) → negℤ (pos (m * (n / m))) +ℤ negℤ (pos (n % m)) ≡ negℤ (pos n)
-negative n m = sym (negℤ-+ℤ (pos (m * (n / m))) (pos (n % m))) ∙ ap (λ (k : ℕ). negℤ (pos k)) (div-add-mod n m)
-
-recombined : (x y : ℤ) → y *ℤ quotZ x y +ℤ remZ x y ≡ x
-recombined (pos a) (pos b) = ap pos (div-add-mod a b)
-recombined (pos a) (negsuc b) =
-    ap (λ u. u +ℤ pos (a % suc b)) (negate-both (pos (suc b)) (pos (a / suc b))) ∙ ap pos (div-add-mod a (suc b))
-recombined (negsuc a) (pos b) =
-    ap (λ u. u +ℤ negℤ (pos (suc a % b))) (negate-right (pos b) (pos (suc a / b))) ∙ negative (suc a) b
-recombined (negsuc a) (negsuc b) = negative (suc a) (suc b)
-
 natAbs-negate : (n : ℕ) → natAbs (negℤ (pos n)) ≡ n
 natAbs-negate zero = refl
 natAbs-negate (suc n) = refl
 
-some : (y : ℤ) → (y ≡ pos 0 → ⊥) → 0 < natAbs y
-some (pos zero) n = absurd (n refl)
-some (pos (suc k)) n = omega arith
-some (negsuc k) n = omega arith
+-- ---- the quotient rounded down and what it leaves over are a division
+abbrev leftOver : ℤ → ℤ → ℤ
+leftOver x (pos zero) = x
+leftOver x (pos (suc c)) = pos (leftBy x c)
+leftOver x (negsuc c) = negℤ (pos (leftBy (negℤ x) c))
 
-below : (x y : ℤ) → (y ≡ pos 0 → ⊥) → natAbs (remZ x y) < natAbs y
-below (pos a) y n = mod-lt a (some y n)
-below (negsuc a) y n = rw (natAbs-negate (suc a % natAbs y)) (mod-lt (suc a) (some y n))
+negative-sign : (n : ℕ) → (negℤ (pos n) ≡ pos 0) ⊎ (nonNeg (negℤ (pos n)) ≡ false)
+negative-sign zero = inl refl
+negative-sign (suc n) = inr refl
 
-signed : (x y : ℤ) → (remZ x y ≡ pos 0) ⊎ (nonNeg (remZ x y) ≡ nonNeg x)
-signed (pos a) y = inr refl
-signed (negsuc a) y = go (suc a % natAbs y)
-  where
-    go : (n : ℕ) → (negℤ (pos n) ≡ pos 0) ⊎ (nonNeg (negℤ (pos n)) ≡ false)
-    go zero = inl refl
-    go (suc n) = inr refl
+floored : (x y : ℤ) → (y ≡ pos 0 → ⊥) → Division x y (floorOf x y) (leftOver x y)
+unfolding floorOf
+floored x (pos zero) n = absurd (n refl)
+floored x (pos (suc c)) n = record { whole = down-whole x c; small = left-below x c; sign = inr refl }
+floored x (negsuc c) n =
+    record {
+      whole =
+          sym (negℤ-negℤ x) ∙ ap negℤ (down-whole (negℤ x) c)
+          ∙ negℤ-+ℤ (pos (suc c) *ℤ shrZ (negℤ x) (suc c)) (pos (leftBy (negℤ x) c))
+          ∙ ap (λ u. u +ℤ negℤ (pos (leftBy (negℤ x) c))) (sym (negate-product (pos (suc c)) (shrZ (negℤ x) (suc c))));
+      small = rw (natAbs-negate (leftBy (negℤ x) c)) (left-below (negℤ x) c);
+      sign = negative-sign (leftBy (negℤ x) c);
+    }
 
-pub division : (x y : ℤ) → (y ≡ pos 0 → ⊥) → Division x y (quotZ x y) (remZ x y)
-division x y n = record { whole = sym (recombined x y); small = below x y n; sign = signed x y }
+positive : (y : ℤ) → (y ≡ pos 0 → ⊥) → 0 < natAbs y
+positive (pos zero) n = absurd (n refl)
+positive (pos (suc k)) n = omega arith
+positive (negsuc k) n = omega arith
 
--- ---- and only they: two divisions differ by a multiple of y that is smaller than y
+-- ---- and the only one: two divisions differ by a multiple of y that is smaller than y
 natAbs-product : (x y : ℤ) → natAbs (x *ℤ y) ≡ natAbs x * natAbs y
 natAbs-product (pos a) (pos b) = refl
 natAbs-product (pos a) (negsuc b) = natAbs-negate (a * suc b)
@@ -139,12 +70,12 @@ opposed a b t (inl e) s = ap natAbs e
 opposed a b t (inr e) (inl f) = absurd (pos-ne-negsuc 0 b (sym f))
 opposed a b t (inr e) (inr f) = absurd (subst T (e ∙ sym f) tt)
 
-near : (n : ℕ) (x r s : ℤ) → natAbs r < n → natAbs s < n → (r ≡ pos 0) ⊎ (nonNeg r ≡ nonNeg x) → (s ≡ pos 0) ⊎ (nonNeg s ≡ nonNeg x) → natAbs (s -ℤ r) < n
-near n x (pos zero) (pos b) hr hs d e = omega arith
-near n x (pos (suc a)) (pos b) hr hs d e = by-difference (λ z. natAbs z < n) b (suc a) (λ l. omega arith) (λ l. omega arith)
-near n x (negsuc a) (negsuc b) hr hs d e = by-difference (λ z. natAbs z < n) (suc a) (suc b) (λ l. omega arith) (λ l. omega arith)
-near n x (pos a) (negsuc b) hr hs d e = rw (opposed a b (nonNeg x) d e, +ℤ-idr (negsuc b)) hs
-near n x (negsuc a) (pos b) hr hs d e = let z : b ≡ 0 = opposed b a (nonNeg x) e d in omega arith
+near : (n : ℕ) (t : Bool) (r s : ℤ) → natAbs r < n → natAbs s < n → (r ≡ pos 0) ⊎ (nonNeg r ≡ t) → (s ≡ pos 0) ⊎ (nonNeg s ≡ t) → natAbs (s -ℤ r) < n
+near n t (pos zero) (pos b) hr hs d e = omega arith
+near n t (pos (suc a)) (pos b) hr hs d e = by-difference (λ z. natAbs z < n) b (suc a) (λ l. omega arith) (λ l. omega arith)
+near n t (negsuc a) (negsuc b) hr hs d e = by-difference (λ z. natAbs z < n) (suc a) (suc b) (λ l. omega arith) (λ l. omega arith)
+near n t (pos a) (negsuc b) hr hs d e = rw (opposed a b t d e, +ℤ-idr (negsuc b)) hs
+near n t (negsuc a) (pos b) hr hs d e = let z : b ≡ 0 = opposed b a t e d in omega arith
 
 none : (n m : ℕ) → n * m < n → m ≡ 0
 none n zero h = refl
@@ -172,18 +103,162 @@ module _ {x y q r p s : ℤ} (d : Division x y q r) (e : Division x y p s) where
 
   pub division-quotient : q ≡ p
   division-quotient =
-      let h : natAbs y * natAbs (q -ℤ p) < natAbs y = rw (← natAbs-product y (q -ℤ p), apart) (near (natAbs y) x r s (d .small) (e .small) (d .sign) (e .sign)) in
+      let h : natAbs y * natAbs (q -ℤ p) < natAbs y = rw (← natAbs-product y (q -ℤ p), apart) (near (natAbs y) (nonNeg y) r s (d .small) (e .small) (d .sign) (e .sign)) in
       equal q p (zero-only (q -ℤ p) (none (natAbs y) (natAbs (q -ℤ p)) h))
 
   pub division-remainder : r ≡ s
   division-remainder =
       sym (equal s r (sym (moved (y *ℤ q) (y *ℤ p) r s (sym (d .whole) ∙ e .whole)) ∙ ap (λ u. y *ℤ u -ℤ y *ℤ p) division-quotient ∙ +ℤ-invr (y *ℤ p)))
 
--- ---- the answers at every pair that has a quotient of 32 bits
+-- ---- they are numbers of 32 bits: a quotient is no larger than the dividend, but for the least number by −1; a remainder is smaller than the divisor
+mag-floor : (x y : ℤ) → mag x < 2147483648 → (x ≡ negsuc 2147483647 → y ≡ negsuc 0 → ⊥) → mag (floorOf x y) < 2147483648
+unfolding floorOf
+mag-floor (pos a) (pos c) h n = omega (arith, div-le-self a c)
+mag-floor (negsuc a) (pos c) h n = omega (arith, div-le-self a c)
+mag-floor (pos zero) (negsuc c) h n = omega (arith, div-le-self 0 (suc c))
+mag-floor (pos (suc a)) (negsuc c) h n = omega (arith, div-le-self a (suc c))
+mag-floor (negsuc a) (negsuc zero) h n =
+    let e : a ≡ 2147483647 → ⊥ = λ e. n (ap negsuc e) refl in
+    omega (arith, div-le-self (suc a) 1, e)
+mag-floor (negsuc a) (negsuc (suc c)) h n = omega (arith, div-lt-self {n = suc a} {k = suc (suc c)} (omega arith) (omega arith))
+
+mag-small : (r : ℤ) (n : ℕ) → natAbs r < n → mag r < n
+mag-small (pos a) n h = h
+mag-small (negsuc a) n h = omega arith
+
+module _ {x y q r : ℤ} (d : Division x y q r) where
+  some : y ≡ pos 0 → ⊥
+  some e = let h : natAbs r < 0 = subst (λ u. natAbs r < natAbs u) e (d .small) in absurd (omega arith)
+
+  pub quotient-fits : SFits w32 x → (x ≡ negsuc 2147483647 → y ≡ negsuc 0 → ⊥) → SFits w32 q
+  quotient-fits h m = rw (division-quotient d (floored x y some)) (record { sfits = mag-floor x y (h .sfits) m })
+
+  pub remainder-fits : SFits w32 y → SFits w32 r
+  remainder-fits h = record { sfits = mag-small r 2147483648 (omega (arith, d .small, natAbs-le y (h .sfits))) }
+
+-- ---- the answers
+pub quotient-zero : (x : ℤ) → quotientOf x (pos 0) ≡ faults
+unfolding quotientOf
+quotient-zero x = refl
+
+pub remainder-zero : (x : ℤ) → remainderOf x (pos 0) ≡ faults
+unfolding remainderOf
+remainder-zero x = refl
+
+-- the least number by −1
+pub quotient-least : quotientOf (negsuc 2147483647) (negsuc 0) ≡ value (negsuc 2147483647)
+unfolding quotientOf floorOf wrap residue centred
+quotient-least = refl
+
+unless : (y : ℤ) (d : Quotient) → (y ≡ pos 0 → ⊥) → unlessZero y d ≡ d
+unless (pos zero) d n = absurd (n refl)
+unless (pos (suc k)) d n = refl
+unless (negsuc k) d n = refl
+
+remainder-left : (x y : ℤ) → (y ≡ pos 0 → ⊥) → remainderOf x y ≡ value (leftOver x y)
+unfolding remainderOf
+remainder-left x y n = unless y (value (x -ℤ y *ℤ floorOf x y)) n ∙ ap value (rest-of x (y *ℤ floorOf x y) (leftOver x y) (floored x y n .whole))
+
+-- by −1 nothing is left over
+pub remainder-one : (x : ℤ) → remainderOf x (negsuc 0) ≡ value (pos 0)
+remainder-one x =
+    let e : leftBy (negℤ x) 0 ≡ 0 = omega (arith, left-below (negℤ x) 0) in
+    remainder-left x (negsuc 0) (λ e. pos-ne-negsuc 0 0 (sym e)) ∙ ap (λ (n : ℕ). value (negℤ (pos n))) e
+
+module _ {x y q r : ℤ} (d : Division x y q r) where
+  pub quotient-by : SFits w32 q → quotientOf x y ≡ value q
+  unfolding quotientOf
+  quotient-by h =
+      unless y (value (wrap (floorOf x y))) (some d) ∙ ap (λ u. value (wrap u)) (division-quotient (floored x y (some d)) d) ∙ ap value (wrap-same h)
+
+  pub remainder-by : remainderOf x y ≡ value r
+  remainder-by = remainder-left x y (some d) ∙ ap value (division-remainder (floored x y (some d)) d)
+
+-- at every pair that has a quotient of 32 bits they are a division, and any division is the answers
 module _ {x : ℤ} (y : ℤ) (h : SFits w32 x) (n : y ≡ pos 0 → ⊥) (m : x ≡ negsuc 2147483647 → y ≡ negsuc 0 → ⊥) where
   pub divided : (q : ℤ) × (r : ℤ) × (quotientOf x y ≡ value q) × (remainderOf x y ≡ value r) × Division x y q r
-  divided = (quotZ x y, remZ x y, quotient-by x y n (quotient-fits y h m), remainder-by x y n, division x y n)
+  divided = let d = floored x y n in (floorOf x y, leftOver x y, quotient-by d (quotient-fits d h m), remainder-by d, d)
 
   pub divided-only : {q r : ℤ} → Division x y q r → (quotientOf x y ≡ value q) × (remainderOf x y ≡ value r)
-  divided-only d =
-      (quotient-by x y n (quotient-fits y h m) ∙ ap value (division-quotient (division x y n) d), remainder-by x y n ∙ ap value (division-remainder (division x y n) d))
+  divided-only d = (quotient-by d (quotient-fits d h m), remainder-by d)
+
+-- ---- a quotient cut toward zero leaves over less than y too; where that has not y's sign, one less is the quotient rounded down
+-- −(m (n / m) + n % m) = −n
+negative : (n m : ℕ) → negℤ (pos (m * (n / m))) +ℤ negℤ (pos (n % m)) ≡ negℤ (pos n)
+negative n m = sym (negℤ-+ℤ (pos (m * (n / m))) (pos (n % m))) ∙ ap (λ (k : ℕ). negℤ (pos k)) (div-add-mod n m)
+
+recombined : (x y : ℤ) → y *ℤ quotZ x y +ℤ remZ x y ≡ x
+recombined (pos a) (pos b) = ap pos (div-add-mod a b)
+recombined (pos a) (negsuc b) =
+    ap (λ u. u +ℤ pos (a % suc b)) (negate-both (pos (suc b)) (pos (a / suc b))) ∙ ap pos (div-add-mod a (suc b))
+recombined (negsuc a) (pos b) =
+    ap (λ u. u +ℤ negℤ (pos (suc a % b))) (negate-right (pos b) (pos (suc a / b))) ∙ negative (suc a) b
+recombined (negsuc a) (negsuc b) = negative (suc a) (suc b)
+
+below : (x y : ℤ) → (y ≡ pos 0 → ⊥) → natAbs (remZ x y) < natAbs y
+below (pos a) y n = mod-lt a (positive y n)
+below (negsuc a) y n = rw (natAbs-negate (suc a % natAbs y)) (mod-lt (suc a) (positive y n))
+
+pub cut-fits : (x y : ℤ) → SFits w32 x → (x ≡ negsuc 2147483647 → y ≡ negsuc 0 → ⊥) → SFits w32 (quotZ x y)
+cut-fits x y h n = record { sfits = go x y (h .sfits) n }
+  where
+    go : (x y : ℤ) → mag x < 2147483648 → (x ≡ negsuc 2147483647 → y ≡ negsuc 0 → ⊥) → mag (quotZ x y) < 2147483648
+    go (pos a) (pos b) h n = omega (arith, div-le-self a b)
+    go (pos a) (negsuc b) h n = omega (arith, mag-negate (a / suc b) a (omega (arith, div-le-self a (suc b))))
+    go (negsuc a) (pos b) h n = omega (arith, mag-negate (suc a / b) a (div-le-self (suc a) b))
+    go (negsuc a) (negsuc zero) h n =
+        let e : a ≡ 2147483647 → ⊥ = λ e. n (ap negsuc e) refl in
+        omega (arith, div-le-self (suc a) 1, e)
+    go (negsuc a) (negsuc (suc b)) h n = omega (arith, div-lt-self {n = suc a} {k = suc (suc b)} (omega arith) (omega arith))
+
+pub cut-left-fits : (x y : ℤ) → SFits w32 x → SFits w32 (remZ x y)
+cut-left-fits x y h = record { sfits = omega (arith, h .sfits, mag-rem x y) }
+
+-- y (q − 1) + (r + y) = y q + r
+lowered-whole : (y q r : ℤ) → y *ℤ (q -ℤ pos 1) +ℤ (r +ℤ y) ≡ y *ℤ q +ℤ r
+lowered-whole y q r =
+    ap (λ u. u +ℤ (r +ℤ y)) (ap (λ u. y *ℤ u) (-ℤ-one q) ∙ *ℤ-comm y (predℤ q) ∙ predℤ-*ℤ q y ∙ ap (λ u. u -ℤ y) (*ℤ-comm q y)) ∙ carry (y *ℤ q) r y
+
+-- what is left over has not the divisor's sign
+abbrev pub isOpposite : ℤ → ℤ → Bool
+isOpposite (pos b) (pos a) = false
+isOpposite (pos b) (negsuc a) = true
+isOpposite (negsuc b) (pos zero) = false
+isOpposite (negsuc b) (pos (suc a)) = true
+isOpposite (negsuc b) (negsuc a) = false
+
+-- as the code tests it
+pub opposite-by : (y r : ℤ) (up : Bool)
+    → ((ltZ y (pos 0) ≡ true) × (up ≡ ltZ (pos 0) r)) ⊎ ((ltZ y (pos 0) ≡ false) × (up ≡ ltZ r (pos 0))) → up ≡ isOpposite y r
+opposite-by (pos b) r up (inl t) = absurd (omega (arith, ltb-true b 0 (t .0)))
+opposite-by (pos b) (pos a) up (inr t) = t .1 ∙ le-ltb a 0 (omega arith)
+opposite-by (pos b) (negsuc a) up (inr t) = t .1
+opposite-by (negsuc b) (pos zero) up (inl t) = t .1
+opposite-by (negsuc b) (pos (suc a)) up (inl t) = t .1 ∙ lt-ltb 0 (suc a) (omega arith)
+opposite-by (negsuc b) (negsuc a) up (inl t) = t .1
+opposite-by (negsuc b) r up (inr t) = absurd (subst T (t .0) tt)
+
+same-sign : (y r : ℤ) → isOpposite y r ≡ false → (r ≡ pos 0) ⊎ (nonNeg r ≡ nonNeg y)
+same-sign (pos b) (pos a) e = inr refl
+same-sign (pos b) (negsuc a) e = absurd (subst T e tt)
+same-sign (negsuc b) (pos zero) e = inl refl
+same-sign (negsuc b) (pos (suc a)) e = absurd (subst T e tt)
+same-sign (negsuc b) (negsuc a) e = inr refl
+
+-- added to the divisor it is smaller than that, and has its sign
+turned : (y r : ℤ) → natAbs r < natAbs y → isOpposite y r ≡ true → (natAbs (r +ℤ y) < natAbs y) × (nonNeg (r +ℤ y) ≡ nonNeg y)
+turned (pos b) (negsuc a) h e = by-difference (λ z. (natAbs z < b) × (nonNeg z ≡ true)) b (suc a) (λ l. absurd (omega arith)) (λ l. (omega arith, refl))
+turned (negsuc b) (pos (suc a)) h e =
+    by-difference (λ z. (natAbs z < suc b) × (nonNeg z ≡ false)) (suc a) (suc b) (λ l. (omega arith, refl)) (λ l. absurd (omega arith))
+turned (pos b) (pos a) h e = absurd (subst T (sym e) tt)
+turned (negsuc b) (pos zero) h e = absurd (subst T (sym e) tt)
+turned (negsuc b) (negsuc a) h e = absurd (subst T (sym e) tt)
+
+module _ (x y : ℤ) (n : y ≡ pos 0 → ⊥) where
+  pub cut-down : isOpposite y (remZ x y) ≡ false → Division x y (quotZ x y) (remZ x y)
+  cut-down e = record { whole = sym (recombined x y); small = below x y n; sign = same-sign y (remZ x y) e }
+
+  pub cut-up : isOpposite y (remZ x y) ≡ true → Division x y (quotZ x y -ℤ pos 1) (remZ x y +ℤ y)
+  cut-up e =
+      let t = turned y (remZ x y) (below x y n) e in
+      record { whole = sym (recombined x y) ∙ sym (lowered-whole y (quotZ x y) (remZ x y)); small = t .0; sign = inr (t .1) }

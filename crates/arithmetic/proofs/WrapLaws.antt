@@ -1,6 +1,6 @@
 -- Laws of `wrap`: it gives the one number of 32 bits that differs by a multiple of 2^32, so sums, differences and products of wrapped numbers wrap to the wrapped ones.
 -- Assumes nothing.
-use mathlib.Core.Path.{_≡_, sym, ap, _∙_}
+use mathlib.Core.Path.{_≡_, refl, sym, ap, _∙_}
 use Prim.Native.Nat.{ℕ, zero, suc, _+_, _-_, _*_, _/_, _%_, _<_, _≤_}
 use native.Mathlib.Omega.{arith}
 use native.Mathlib.Decide.{decLt}
@@ -10,7 +10,7 @@ use mir.Syntax.{w32}
 use mir.Val.{SFits}
 use borrow.Author.Tests.{lt-ltb, le-ltb}
 use Rattle.arithmetic.specs.Wrap.{residue, centred, wrap}
-use Rattle.arithmetic.proofs.Integers.{induct, by-difference, distribute, associate, carry, exchange}
+use Rattle.arithmetic.proofs.Integers.{induct, by-difference, distribute, associate, carry, exchange, leftBy, down-whole}
 
 -- ---- a remainder below 2^32, and the number of 32 bits that it stands for
 pub residue-below : (z : ℤ) → residue z < 4294967296
@@ -52,15 +52,15 @@ pub wrap-same : {z : ℤ} → SFits w32 z → wrap z ≡ z
 wrap-same {z} h = same z (h .sfits)
 
 -- ---- what is wrapped differs by a multiple of 2^32
-below : (a n : ℕ) → pos a +ℤ negsuc (a + n) ≡ negsuc n
-below a n = by-difference (λ z. z ≡ negsuc n) a (suc (a + n)) (λ l. ap negsuc (omega arith)) (λ l. absurd (omega arith))
+left-residue : (z : ℤ) → leftBy z 4294967295 ≡ residue z
+unfolding residue
+left-residue (pos n) = refl
+left-residue (negsuc n) = refl
 
 divided : (z : ℤ) → z ≡ pos (residue z) +ℤ shrZ z 4294967296 *ℤ pos 4294967296
-unfolding residue
-divided (pos n) = ap pos (omega arith)
-divided (negsuc n) =
-    let e : suc (n / 4294967296) * 4294967296 ≡ suc ((4294967295 - n % 4294967296) + n) = omega arith in
-    rw e (sym (below (4294967295 - n % 4294967296) n))
+divided z =
+    down-whole z 4294967295 ∙ +ℤ-comm (pos 4294967296 *ℤ shrZ z 4294967296) (pos (leftBy z 4294967295))
+    ∙ ap (λ u. pos (leftBy z 4294967295) +ℤ u) (*ℤ-comm (pos 4294967296) (shrZ z 4294967296)) ∙ ap (λ (n : ℕ). pos n +ℤ shrZ z 4294967296 *ℤ pos 4294967296) (left-residue z)
 
 differs : (z : ℤ) → Dec (residue z < 2147483648) → (k : ℤ) × (z ≡ wrap z +ℤ k *ℤ pos 4294967296)
 unfolding wrap

@@ -1,7 +1,8 @@
 // Arithmetic on signed 32-bit numbers: sum, difference and product wrap; quotient and remainder.
 ghost use mathlib.Core.Path.{_≡_};
+ghost use lib.IntN.{pos, negsuc};
 ghost use Rattle.arithmetic.specs.Wrap.{wrap, sumOf, differenceOf, productOf};
-ghost use Rattle.arithmetic.specs.Quotient.{told, quotientOf, remainderOf};
+ghost use Rattle.arithmetic.specs.Quotient.{told, quotientOf, remainderOf, Division};
 
 // A number, or that the divisor is zero.
 pub enum Divided {
@@ -34,6 +35,28 @@ pub fn product(x: i32, y: i32) -> i32
     wrap((x as i64) * (y as i64))
 }
 
+// The quotient rounded down, and the remainder that matches it.
+struct Parts {
+    quotient: i32,
+    remainder: i32,
+}
+
+// Both, where the quotient is a number of 32 bits. The machine cuts toward zero: up, and not down, where something is left over that lacks the divisor's
+// sign.
+fn divide(x: i32, y: i32) -> Parts
+    requires { ⌜ (y ≡ pos 0 → ⊥) × (x ≡ negsuc 2147483647 → y ≡ negsuc 0 → ⊥) ⌝ }
+    ensures { λ r. ⌜ Division x y (r .quotient) (r .remainder) ⌝ }
+{
+    let quotient = x / y;
+    let remainder = x % y;
+    let up = if y < 0 { remainder > 0 } else { remainder < 0 };
+    if up {
+        Parts { quotient: quotient - 1, remainder: remainder + y }
+    } else {
+        Parts { quotient, remainder }
+    }
+}
+
 pub fn quotient(x: i32, y: i32) -> Divided
     ensures { λ r. ⌜ told r ≡ quotientOf x y ⌝ }
 {
@@ -45,7 +68,7 @@ pub fn quotient(x: i32, y: i32) -> Divided
             return Divided::By(-2147483648);
         }
     }
-    Divided::By(x / y)
+    Divided::By(divide(x, y).quotient)
 }
 
 pub fn remainder(x: i32, y: i32) -> Divided
@@ -54,6 +77,6 @@ pub fn remainder(x: i32, y: i32) -> Divided
     match y {
         0 => Divided::Zero,
         -1 => Divided::By(0),
-        _ => Divided::By(x % y),
+        _ => Divided::By(divide(x, y).remainder),
     }
 }
