@@ -87,6 +87,25 @@ LANES = {
         input=[(0, 100), (1, 4), (0, 90), (1, 0), (0, 70), (1, 7)],
         picks=[0, 1] * 10,
     ),
+    # corrections in cents, each split into shares: what a share gets, rounded down, and what is then left over, which is never below zero
+    "correction": dict(
+        processes=[
+            # clearing: an amount, a number of shares, the quotient out, the remainder out
+            [
+                (RECV, 0, 0, 7),
+                (RECV, 1, 1, 7),
+                (DIV, 2, 0, 1),
+                (REM, 3, 0, 1),
+                (SEND, 2, 2, 0),
+                (SEND, 3, 3, 0),
+                (JUMP, 0, 0, 0),
+                (STOP, 0, 0, 0),
+            ],
+        ],
+        channels=[(None, 0, 1), (None, 0, 1), (0, None, 1), (0, None, 1)],
+        input=[(0, -7), (1, 2), (0, -700), (1, 3), (0, -9), (1, 3)],
+        picks=[0] * 24,
+    ),
 }
 
 

@@ -2,3 +2,4 @@ pub mod Integers
 pub mod WrapLaws
 pub mod Operands
 pub mod QuotientLaws
+pub mod Cases

@@ -2,17 +2,17 @@
 -- zero is put right.
 -- Assumes nothing.
 use mathlib.Core.Path.{_≡_, refl, sym, ap, subst, _∙_}
-use mathlib.Core.Bool.{Bool, true, false, not}
+use mathlib.Core.Bool.{Bool, true, false, false≢true, true≢false}
 use mathlib.Core.Logic.{_⊎_, inl, inr}
 use Prim.Native.Nat.{ℕ, zero, suc, _+_, _*_, _/_, _%_, _<_}
 use native.Mathlib.Nat.{div-le-self, div-lt-self, div-add-mod, mod-lt}
 use native.Mathlib.Omega.{arith}
 use lib.Dec.{T}
-use lib.IntN.{ℤ, pos, negsuc, predℤ, negℤ, natAbs, pos-ne-negsuc, _+ℤ_, _-ℤ_, _*ℤ_, +ℤ-idl, +ℤ-idr, +ℤ-invr, +ℤ-comm, +ℤ-assoc, +ℤ-negℤ-cancel, -ℤ-+ℤ-cancel, -ℤ-one, negℤ-+ℤ, negℤ-negℤ, *ℤ-comm, predℤ-*ℤ}
+use lib.IntN.{ℤ, pos, negsuc, predℤ, negℤ, natAbs, pos-ne-negsuc, _+ℤ_, _-ℤ_, _*ℤ_, +ℤ-idl, +ℤ-idr, +ℤ-invr, +ℤ-comm, +ℤ-assoc, +ℤ-negℤ-cancel, -ℤ-+ℤ-cancel, -ℤ-one, negℤ-+ℤ, negℤ-negℤ, *ℤ-comm, zero-*ℤ, predℤ-*ℤ}
 use lib.Signed.{mag, nonNeg, ltZ, mag-rem, natAbs-le, quotZ, remZ, shrZ}
 use mir.Syntax.{w32}
 use mir.Val.{SFits}
-use borrow.Author.Tests.{ltb-true, lt-ltb, le-ltb}
+use borrow.Author.Tests.{ltb-true}
 use Rattle.arithmetic.specs.Wrap.{residue, centred, wrap}
 use Rattle.arithmetic.specs.Quotient.{Quotient, value, faults, unlessZero, floorOf, quotientOf, remainderOf, Division}
 use Rattle.arithmetic.proofs.Integers.{by-difference, mag-negate, negate-product, distribute, carry, exchange, rest-of, leftBy, left-below, down-whole}
@@ -219,46 +219,33 @@ lowered-whole : (y q r : ℤ) → y *ℤ (q -ℤ pos 1) +ℤ (r +ℤ y) ≡ y *�
 lowered-whole y q r =
     ap (λ u. u +ℤ (r +ℤ y)) (ap (λ u. y *ℤ u) (-ℤ-one q) ∙ *ℤ-comm y (predℤ q) ∙ predℤ-*ℤ q y ∙ ap (λ u. u -ℤ y) (*ℤ-comm q y)) ∙ carry (y *ℤ q) r y
 
--- what is left over has not the divisor's sign
-abbrev pub isOpposite : ℤ → ℤ → Bool
-isOpposite (pos b) (pos a) = false
-isOpposite (pos b) (negsuc a) = true
-isOpposite (negsuc b) (pos zero) = false
-isOpposite (negsuc b) (pos (suc a)) = true
-isOpposite (negsuc b) (negsuc a) = false
+below-zero : (n : ℕ) → 0 < n → ltZ (negℤ (pos n)) (pos 0) ≡ true
+below-zero zero h = absurd (omega arith)
+below-zero (suc n) h = refl
 
--- as the code tests it
-pub opposite-by : (y r : ℤ) (up : Bool)
-    → ((ltZ y (pos 0) ≡ true) × (up ≡ ltZ (pos 0) r)) ⊎ ((ltZ y (pos 0) ≡ false) × (up ≡ ltZ r (pos 0))) → up ≡ isOpposite y r
-opposite-by (pos b) r up (inl t) = absurd (omega (arith, ltb-true b 0 (t .0)))
-opposite-by (pos b) (pos a) up (inr t) = t .1 ∙ le-ltb a 0 (omega arith)
-opposite-by (pos b) (negsuc a) up (inr t) = t .1
-opposite-by (negsuc b) (pos zero) up (inl t) = t .1
-opposite-by (negsuc b) (pos (suc a)) up (inl t) = t .1 ∙ lt-ltb 0 (suc a) (omega arith)
-opposite-by (negsuc b) (negsuc a) up (inl t) = t .1
-opposite-by (negsuc b) r up (inr t) = absurd (subst T (t .0) tt)
+-- what is left over has the divisor's sign where their product is not below zero
+same-sign : (y r : ℤ) → natAbs r < natAbs y → ltZ (r *ℤ y) (pos 0) ≡ false → (r ≡ pos 0) ⊎ (nonNeg r ≡ nonNeg y)
+same-sign (pos b) (pos a) h e = inr refl
+same-sign (negsuc b) (negsuc a) h e = inr refl
+same-sign (negsuc b) (pos zero) h e = inl refl
+same-sign (negsuc b) (pos (suc a)) h e = absurd (true≢false (sym (below-zero (suc a * suc b) (omega arith)) ∙ e))
+same-sign (pos zero) (negsuc a) h e = absurd (omega arith)
+same-sign (pos (suc b)) (negsuc a) h e = absurd (true≢false (sym (below-zero (suc a * suc b) (omega arith)) ∙ e))
 
-same-sign : (y r : ℤ) → isOpposite y r ≡ false → (r ≡ pos 0) ⊎ (nonNeg r ≡ nonNeg y)
-same-sign (pos b) (pos a) e = inr refl
-same-sign (pos b) (negsuc a) e = absurd (subst T e tt)
-same-sign (negsuc b) (pos zero) e = inl refl
-same-sign (negsuc b) (pos (suc a)) e = absurd (subst T e tt)
-same-sign (negsuc b) (negsuc a) e = inr refl
-
--- added to the divisor it is smaller than that, and has its sign
-turned : (y r : ℤ) → natAbs r < natAbs y → isOpposite y r ≡ true → (natAbs (r +ℤ y) < natAbs y) × (nonNeg (r +ℤ y) ≡ nonNeg y)
+-- where it is below, the two add up to less than the divisor, with its sign
+turned : (y r : ℤ) → natAbs r < natAbs y → ltZ (r *ℤ y) (pos 0) ≡ true → (natAbs (r +ℤ y) < natAbs y) × (nonNeg (r +ℤ y) ≡ nonNeg y)
 turned (pos b) (negsuc a) h e = by-difference (λ z. (natAbs z < b) × (nonNeg z ≡ true)) b (suc a) (λ l. absurd (omega arith)) (λ l. (omega arith, refl))
 turned (negsuc b) (pos (suc a)) h e =
     by-difference (λ z. (natAbs z < suc b) × (nonNeg z ≡ false)) (suc a) (suc b) (λ l. (omega arith, refl)) (λ l. absurd (omega arith))
-turned (pos b) (pos a) h e = absurd (subst T (sym e) tt)
-turned (negsuc b) (pos zero) h e = absurd (subst T (sym e) tt)
-turned (negsuc b) (negsuc a) h e = absurd (subst T (sym e) tt)
+turned (negsuc b) (pos zero) h e = absurd (false≢true (ap (λ u. ltZ u (pos 0)) (sym (zero-*ℤ (negsuc b))) ∙ e))
+turned (pos b) (pos a) h e = absurd (omega (arith, ltb-true (a * b) 0 e))
+turned (negsuc b) (negsuc a) h e = absurd (omega (arith, ltb-true (suc a * suc b) 0 e))
 
 module _ (x y : ℤ) (n : y ≡ pos 0 → ⊥) where
-  pub cut-down : isOpposite y (remZ x y) ≡ false → Division x y (quotZ x y) (remZ x y)
-  cut-down e = record { whole = sym (recombined x y); small = below x y n; sign = same-sign y (remZ x y) e }
+  pub cut-down : ltZ (remZ x y *ℤ y) (pos 0) ≡ false → Division x y (quotZ x y) (remZ x y)
+  cut-down e = record { whole = sym (recombined x y); small = below x y n; sign = same-sign y (remZ x y) (below x y n) e }
 
-  pub cut-up : isOpposite y (remZ x y) ≡ true → Division x y (quotZ x y -ℤ pos 1) (remZ x y +ℤ y)
+  pub cut-up : ltZ (remZ x y *ℤ y) (pos 0) ≡ true → Division x y (quotZ x y -ℤ pos 1) (remZ x y +ℤ y)
   cut-up e =
       let t = turned y (remZ x y) (below x y n) e in
       record { whole = sym (recombined x y) ∙ sym (lowered-whole y (quotZ x y) (remZ x y)); small = t .0; sign = inr (t .1) }

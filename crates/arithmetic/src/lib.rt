@@ -41,19 +41,24 @@ struct Parts {
     remainder: i32,
 }
 
-// Both, where the quotient is a number of 32 bits. The machine cuts toward zero: up, and not down, where something is left over that lacks the divisor's
-// sign.
+// Both, where the quotient is a number of 32 bits. The machine cuts toward zero: that is up, and one too many, where something is left over that lacks
+// the divisor's sign. Its product with the divisor is then below zero, and one multiplication is cheaper than tests of both signs.
 fn divide(x: i32, y: i32) -> Parts
     requires { ⌜ (y ≡ pos 0 → ⊥) × (x ≡ negsuc 2147483647 → y ≡ negsuc 0 → ⊥) ⌝ }
     ensures { λ r. ⌜ Division x y (r .quotient) (r .remainder) ⌝ }
 {
     let quotient = x / y;
     let remainder = x % y;
-    let up = if y < 0 { remainder > 0 } else { remainder < 0 };
-    if up {
-        Parts { quotient: quotient - 1, remainder: remainder + y }
+    if (remainder as i64) * (y as i64) < 0 {
+        Parts {
+            quotient: quotient - 1,
+            remainder: remainder + y,
+        }
     } else {
-        Parts { quotient, remainder }
+        Parts {
+            quotient,
+            remainder,
+        }
     }
 }
 

@@ -16,7 +16,7 @@ use Rattle.network.specs.Rules.{total, slots, endsRight, records, instructionRi
 use Rattle.base.proofs.Conjunction.{both-true}
 use Rattle.network.proofs.Unused.{passesBut, passes-by}
 use Rattle.arithmetic.specs.Wrap.{residue, centred, wrap}
-use Rattle.arithmetic.specs.Quotient.{quotientOf, remainderOf}
+use Rattle.arithmetic.specs.Quotient.{floorOf, quotientOf, remainderOf}
 use Rattle.process.specs.Want.{wantLive, want}
 use Rattle.process.specs.Execute.{execute, stepOf}
 use Rattle.process.specs.Window.{eight}
@@ -95,7 +95,7 @@ module _ (cells : List ℤ) where
   all-fit = refl
 
   computed : Computed (table cells)
-  unfolding stepOf execute want wantLive wrap centred residue quotientOf remainderOf standsAt stepAt putBack pickIn eight waitOf pointing fullWait waitsAt iter closesFrom chain firstFrom search crc
+  unfolding stepOf execute want wantLive wrap centred residue floorOf quotientOf remainderOf standsAt stepAt putBack pickIn eight waitOf pointing fullWait waitsAt iter closesFrom chain firstFrom search crc
   computed =
       -- a, b, c
       refl
@@ -121,6 +121,10 @@ module _ (cells : List ℤ) where
       -- m
       & refl
       -- the limits
+      & refl
+      & refl
+      & refl
+      & refl
       & refl
       & refl
       & refl

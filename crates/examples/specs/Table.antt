@@ -122,9 +122,9 @@ table cells =
     ∷ step (op 3 0 1 2) (pos 9 ∷ pos 2147483647 ∷ pos 1 ∷ []) ⇒ becomes (minus 2147483648 ∷ pos 2147483647 ∷ pos 1 ∷ [])
     -- c) "65536 × 65536 is 0."
     ∷ step (op 5 0 1 2) (pos 9 ∷ pos 65536 ∷ pos 65536 ∷ []) ⇒ becomes (pos 0 ∷ pos 65536 ∷ pos 65536 ∷ [])
-    -- d) "−7 by 2: −3, remainder −1."
-    ∷ step (op 6 0 1 2) (pos 9 ∷ minus 7 ∷ pos 2 ∷ []) ⇒ becomes (minus 3 ∷ minus 7 ∷ pos 2 ∷ [])
-    ∷ step (op 7 0 1 2) (pos 9 ∷ minus 7 ∷ pos 2 ∷ []) ⇒ becomes (minus 1 ∷ minus 7 ∷ pos 2 ∷ [])
+    -- d) "−7 by 2", of which request 3 of document 02 says: "Instruction 6 gives −4 .., and instruction 7 the matching remainder 1"
+    ∷ step (op 6 0 1 2) (pos 9 ∷ minus 7 ∷ pos 2 ∷ []) ⇒ becomes (minus 4 ∷ minus 7 ∷ pos 2 ∷ [])
+    ∷ step (op 7 0 1 2) (pos 9 ∷ minus 7 ∷ pos 2 ∷ []) ⇒ becomes (pos 1 ∷ minus 7 ∷ pos 2 ∷ [])
     -- e) "by 0: faulted, outputs closed."
     ∷ pick 0 (divider 6 Live 0 (0 of 1 ∷ 1 of 1 ∷ 1 of 1 ∷ []))
     ⇒ leaves moved (divider 6 Faulted 1 (closed (0 of 1) ∷ closed (1 of 1) ∷ 0 of 1 ∷ [])) cells
@@ -147,12 +147,16 @@ table cells =
     ∷ relieve (9 ∷ 9 ∷ []) (bothFull (3 of 3 ∷ 3 of 3 ∷ []) 0) ⇒ relieves (relief.enlarged 2 0) (bothFull (3 of 4 ∷ 3 of 3 ∷ []) 1) (0 ∷ 1 ∷ [])
     -- m) "the nine digits 123456789 check to 29B1 hex."
     ∷ check (49 ∷ 50 ∷ 51 ∷ 52 ∷ 53 ∷ 54 ∷ 55 ∷ 56 ∷ 57 ∷ []) ⇒ checked 0x29B1
-    -- beside the examples, the limits of 4 to 7: −2147483648 − 1 is 2147483647; −65537 × 65537 is −131073; 7 by −2: −3, remainder 1; and, from
-    -- "Instructions", "−2147483648 by −1 gives −2147483648, remainder 0."
+    -- beside the examples, the limits of 4 to 7: −2147483648 − 1 is 2147483647; −65537 × 65537 is −131073; 7 by −2: −4, remainder −1; −7 by −2: 3,
+    -- remainder −1; 6 by −3: −2, remainder 0; and, from "Instructions", "−2147483648 by −1 gives −2147483648, remainder 0."
     ∷ step (op 4 0 1 2) (pos 9 ∷ minus 2147483648 ∷ pos 1 ∷ []) ⇒ becomes (pos 2147483647 ∷ minus 2147483648 ∷ pos 1 ∷ [])
     ∷ step (op 5 0 1 2) (pos 9 ∷ minus 65537 ∷ pos 65537 ∷ []) ⇒ becomes (minus 131073 ∷ minus 65537 ∷ pos 65537 ∷ [])
-    ∷ step (op 6 0 1 2) (pos 9 ∷ pos 7 ∷ minus 2 ∷ []) ⇒ becomes (minus 3 ∷ pos 7 ∷ minus 2 ∷ [])
-    ∷ step (op 7 0 1 2) (pos 9 ∷ pos 7 ∷ minus 2 ∷ []) ⇒ becomes (pos 1 ∷ pos 7 ∷ minus 2 ∷ [])
+    ∷ step (op 6 0 1 2) (pos 9 ∷ pos 7 ∷ minus 2 ∷ []) ⇒ becomes (minus 4 ∷ pos 7 ∷ minus 2 ∷ [])
+    ∷ step (op 7 0 1 2) (pos 9 ∷ pos 7 ∷ minus 2 ∷ []) ⇒ becomes (minus 1 ∷ pos 7 ∷ minus 2 ∷ [])
+    ∷ step (op 6 0 1 2) (pos 9 ∷ minus 7 ∷ minus 2 ∷ []) ⇒ becomes (pos 3 ∷ minus 7 ∷ minus 2 ∷ [])
+    ∷ step (op 7 0 1 2) (pos 9 ∷ minus 7 ∷ minus 2 ∷ []) ⇒ becomes (minus 1 ∷ minus 7 ∷ minus 2 ∷ [])
+    ∷ step (op 6 0 1 2) (pos 9 ∷ pos 6 ∷ minus 3 ∷ []) ⇒ becomes (minus 2 ∷ pos 6 ∷ minus 3 ∷ [])
+    ∷ step (op 7 0 1 2) (pos 9 ∷ pos 6 ∷ minus 3 ∷ []) ⇒ becomes (pos 0 ∷ pos 6 ∷ minus 3 ∷ [])
     ∷ step (op 6 0 1 2) (pos 9 ∷ minus 2147483648 ∷ minus 1 ∷ []) ⇒ becomes (minus 2147483648 ∷ minus 2147483648 ∷ minus 1 ∷ [])
     ∷ step (op 7 0 1 2) (pos 9 ∷ minus 2147483648 ∷ minus 1 ∷ []) ⇒ becomes (pos 0 ∷ minus 2147483648 ∷ minus 1 ∷ [])
     ∷ []

@@ -15,6 +15,7 @@ use Rattle.network.specs.Code.{fieldsRight, standsRight}
 use Rattle.network.specs.Rules.{senderOf, outside, slots, endsRight, records, instructionRight, codeOf, instructions, unusedSlots, unusedRecords, passes}
 use Rattle.base.proofs.Conjunction.{both-true}
 use Rattle.arithmetic.specs.Wrap.{residue, centred, wrap}
+use Rattle.arithmetic.specs.Quotient.{floorOf, quotientOf}
 use Rattle.process.specs.Want.{wantLive, want}
 use Rattle.process.specs.Execute.{execute, stepOf}
 use Rattle.process.specs.Window.{eight}
@@ -40,7 +41,7 @@ unfolding fileOf firstBlock codeBlock joined crc
 files = 0
 
 unfoldable pub calls : ℕ
-unfolding bare freshOf values standsAt stepAt putBack pickIn eight stepOf execute want wantLive wrap centred residue waitOf pointing fullWait waitsAt iter closesFrom chain firstFrom search
+unfolding bare freshOf values standsAt stepAt putBack pickIn eight stepOf execute want wantLive wrap centred residue floorOf quotientOf waitOf pointing fullWait waitsAt iter closesFrom chain firstFrom search
 calls = 0
 
 -- ---- boards

@@ -24,3 +24,4 @@ pub mod Tested
 pub mod Computed
 pub mod Witness
 pub mod WitnessTwo
+pub mod Former

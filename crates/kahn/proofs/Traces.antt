@@ -119,7 +119,7 @@ more c k w r s =
       last = (not (closesOf k r c) || none (s .fed)) && s .last;
     }
 
-abbrev seenBy : (Call → World → Made) → ℕ → List Call → World → Seen
+abbrev pub seenBy : (Call → World → Made) → ℕ → List Call → World → Seen
 seenBy f c [] w = nothing w
 seenBy f c (k ∷ ks) w = more c k w (f k w .reply) (seenBy f c ks (f k w .world))
 

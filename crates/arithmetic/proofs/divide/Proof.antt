@@ -1,23 +1,22 @@
 -- `arithmetic::divide` meets its contract: cut toward zero, and one less where what is left over has not the divisor's sign.
 -- Assumes nothing.
 use mathlib.Core.Path.{_≡_, sym, ap, _∙_}
-use mathlib.Core.Logic.{⊎-elim, inl, inr}
 use Prim.Native.Nat.{_<_}
 use native.Mathlib.Omega.{arith}
-use lib.IntN.{ℤ, pos, _+ℤ_, _-ℤ_}
-use lib.Signed.{quotZ, remZ}
-use mir.Syntax.{w32}
+use lib.IntN.{ℤ, pos, _+ℤ_, _-ℤ_, _*ℤ_}
+use lib.Signed.{ltZ, quotZ, remZ}
+use mir.Syntax.{w32, w64}
 use mir.Val.{SFits, toZ, ofZ}
 use mir.Facts.{toZ-ofZ}
 use Rattle.arithmetic.specs.Quotient.{Division}
-use Rattle.arithmetic.proofs.Operands.{number}
-use Rattle.arithmetic.proofs.QuotientLaws.{quotient-fits, remainder-fits, cut-fits, cut-left-fits, isOpposite, opposite-by, cut-down, cut-up}
+use Rattle.arithmetic.proofs.Operands.{wide, operand, number, product-fits}
+use Rattle.arithmetic.proofs.QuotientLaws.{quotient-fits, remainder-fits, cut-fits, cut-left-fits, cut-down, cut-up}
 use Rattle.arithmetic.proofs.divide.Statement.{statement}
 use Rattle.arithmetic.proofs.divide.Tie as tie
 use Rattle.arithmetic.proofs.divide.Reads as reads
 use Rattle.arithmetic.proofs.divide.Lts as lts
 
--- the operands, and what the machine makes of them
+-- the operands, what the machine makes of them, and the product that is tested
 module _ (c : lts.Start reads.Pre reads.Post) where
   abbrev x : ℤ
   x = c .args .x
@@ -31,10 +30,20 @@ module _ (c : lts.Start reads.Pre reads.Post) where
   remainder-is : SFits w32 (remZ x y)
   remainder-is = cut-left-fits x y (c .fits .x)
 
+  product-is : SFits w64 (remZ x y *ℤ y)
+  product-is = product-fits remainder-is (c .fits .y)
+
   divides : (0 < ofZ w32 y) × SFits w32 (quotZ (toZ w32 (ofZ w32 x)) (toZ w32 (ofZ w32 y)))
   divides =
       let e : ofZ w32 y ≡ 0 → ⊥ = λ e. c .pre .0 (number (c .fits .y) e) in
       (omega (arith, e), rw (toZ-ofZ (c .fits .x), toZ-ofZ (c .fits .y)) quotient-is)
+
+  -- the product, as the machine has it
+  abbrev product : ℤ
+  product = toZ w64 (ofZ w64 (toZ w64 (ofZ w64 (toZ w32 (ofZ w32 (remZ (toZ w32 (ofZ w32 x)) (toZ w32 (ofZ w32 y)))))) *ℤ toZ w64 (ofZ w64 (toZ w32 (ofZ w32 y)))))
+
+  product-right : product ≡ remZ x y *ℤ y
+  product-right = rw (toZ-ofZ (c .fits .x), toZ-ofZ (c .fits .y), toZ-ofZ remainder-is, toZ-ofZ (wide remainder-is), toZ-ofZ (wide (c .fits .y))) (toZ-ofZ product-is)
 
 div-quotient : tie.Need-div-quotient
 div-quotient c = divides c
@@ -42,34 +51,51 @@ div-quotient c = divides c
 rem-remainder : tie.Need-rem-remainder
 rem-remainder c = divides c
 
--- the test
-module _ (c : lts.Joined1 reads.Pre reads.Post) where
-  opposite : c .if1 .up ≡ isOpposite (y (c .before)) (remZ (x (c .before)) (y (c .before)))
-  opposite =
-      opposite-by (y (c .before)) (remZ (x (c .before)) (y (c .before))) (c .if1 .up)
-      (⊎-elim
-      (λ w. inl (rw (← toZ-ofZ (c .before .fits .y)) (w .0 .taken), w .1 ∙ rw (toZ-ofZ (c .before .fits .x), toZ-ofZ (c .before .fits .y), toZ-ofZ (remainder-is (c .before)))))
-      (λ w. inr (rw (← toZ-ofZ (c .before .fits .y)) (w .0 .left), w .1 ∙ rw (toZ-ofZ (c .before .fits .x), toZ-ofZ (c .before .fits .y), toZ-ofZ (remainder-is (c .before)))))
-      (c .if1 .came))
+cast-if1 : tie.Need-cast-if1
+cast-if1 c = rw (toZ-ofZ (c .fits .x), toZ-ofZ (c .fits .y)) (operand (remainder-is c))
 
-module _ (c : lts.Then2 reads.Pre reads.Post) where
-  lower : Division (x (c .before .before)) (y (c .before .before)) (quotZ (x (c .before .before)) (y (c .before .before)) -ℤ pos 1) (remZ (x (c .before .before)) (y (c .before .before)) +ℤ y (c .before .before))
-  lower = cut-up (x (c .before .before)) (y (c .before .before)) (c .before .before .pre .0) (sym (opposite (c .before)) ∙ c .if2 .taken)
+cast-if1-2 : tie.Need-cast-if1-2
+cast-if1-2 c = operand (c .fits .y)
 
-sub-t9 : tie.Need-sub-t9
-sub-t9 c = rw (toZ-ofZ (c .before .before .fits .x), toZ-ofZ (c .before .before .fits .y), toZ-ofZ (quotient-is (c .before .before))) (quotient-fits (lower c) (c .before .before .fits .x) (c .before .before .pre .1))
+mul-if1 : tie.Need-mul-if1
+mul-if1 c = rw (toZ-ofZ (c .fits .x), toZ-ofZ (c .fits .y), toZ-ofZ (remainder-is c), toZ-ofZ (wide (remainder-is c)), toZ-ofZ (wide (c .fits .y))) (product-is c)
 
-add-t10 : tie.Need-add-t10
-add-t10 c = rw (toZ-ofZ (c .before .before .fits .x), toZ-ofZ (c .before .before .fits .y), toZ-ofZ (remainder-is (c .before .before))) (remainder-fits (lower c) (c .before .before .fits .y))
+-- the product is below zero
+module _ (c : lts.Then1 reads.Pre reads.Post) where
+  abbrev s : lts.Start reads.Pre reads.Post
+  s = c .before
+
+  lower : Division (x s) (y s) (quotZ (x s) (y s) -ℤ pos 1) (remZ (x s) (y s) +ℤ y s)
+  lower = cut-up (x s) (y s) (s .pre .0) (ap (λ u. ltZ u (pos 0)) (sym (product-right s)) ∙ c .if1 .taken)
+
+  lower-quotient : SFits w32 (quotZ (x s) (y s) -ℤ pos 1)
+  lower-quotient = quotient-fits lower (s .fits .x) (s .pre .1)
+
+  lower-remainder : SFits w32 (remZ (x s) (y s) +ℤ y s)
+  lower-remainder = remainder-fits lower (s .fits .y)
+
+sub-t10 : tie.Need-sub-t10
+sub-t10 c = rw (toZ-ofZ (c .before .fits .x), toZ-ofZ (c .before .fits .y), toZ-ofZ (quotient-is (c .before))) (lower-quotient c)
+
+add-t11 : tie.Need-add-t11
+add-t11 c = rw (toZ-ofZ (c .before .fits .x), toZ-ofZ (c .before .fits .y), toZ-ofZ (remainder-is (c .before))) (lower-remainder c)
 
 returns : tie.Need-returns
 returns c =
-    rw (toZ-ofZ (c .before .before .fits .x), toZ-ofZ (c .before .before .fits .y), toZ-ofZ (quotient-is (c .before .before)), toZ-ofZ (remainder-is (c .before .before)), toZ-ofZ (quotient-fits (lower c) (c .before .before .fits .x) (c .before .before .pre .1)), toZ-ofZ (remainder-fits (lower c) (c .before .before .fits .y))) (lower c)
+    rw (
+      toZ-ofZ (c .before .fits .x),
+      toZ-ofZ (c .before .fits .y),
+      toZ-ofZ (quotient-is (c .before)),
+      toZ-ofZ (remainder-is (c .before)),
+      toZ-ofZ (lower-quotient c),
+      toZ-ofZ (lower-remainder c),
+    ) (lower c)
 
 returns-2 : tie.Need-returns-2
 returns-2 c =
-    rw (toZ-ofZ (c .before .before .fits .x), toZ-ofZ (c .before .before .fits .y), toZ-ofZ (quotient-is (c .before .before)), toZ-ofZ (remainder-is (c .before .before)))
-        (cut-down (x (c .before .before)) (y (c .before .before)) (c .before .before .pre .0) (sym (opposite (c .before)) ∙ c .if2 .left))
+    let s = c .before in
+    rw (toZ-ofZ (s .fits .x), toZ-ofZ (s .fits .y), toZ-ofZ (quotient-is s), toZ-ofZ (remainder-is s))
+    (cut-down (x s) (y s) (s .pre .0) (ap (λ u. ltZ u (pos 0)) (sym (product-right s)) ∙ c .if1 .left))
 
 pub divide-spec : {M : Type 1} → statement M
-divide-spec = tie.close (tie.spec div-quotient rem-remainder sub-t9 add-t10 returns returns-2)
+divide-spec = tie.close (tie.spec div-quotient rem-remainder cast-if1 cast-if1-2 mul-if1 sub-t10 add-t11 returns returns-2)

@@ -34,7 +34,7 @@ returns-3 : tie.Need-returns-3
 returns-3 c =
     let s = c .before .before .before .before in
     let d : Division (s .args .x) (s .args .y) (c .before .divide .result .quotient) (c .before .divide .result .remainder) =
-        rw (← toZ-ofZ (s .fits .x), ← toZ-ofZ (s .fits .y)) (c .before .divide .ensures) in
+    rw (← toZ-ofZ (s .fits .x), ← toZ-ofZ (s .fits .y)) (c .before .divide .ensures) in
     let h : SFits w32 (c .before .divide .result .quotient) = quotient-fits d (s .fits .x) (fitting (c .before .before)) in
     rw (toZ-ofZ h, quotient-by d h)
 

@@ -24,7 +24,7 @@ returns-3 : tie.Need-returns-3
 returns-3 c =
     let s = c .before .before .before in
     let d : Division (s .args .x) (s .args .y) (c .before .divide .result .quotient) (c .before .divide .result .remainder) =
-        rw (← toZ-ofZ (s .fits .x), ← toZ-ofZ (s .fits .y)) (c .before .divide .ensures) in
+    rw (← toZ-ofZ (s .fits .x), ← toZ-ofZ (s .fits .y)) (c .before .divide .ensures) in
     rw (toZ-ofZ (remainder-fits d (s .fits .y)), remainder-by d)
 
 pub remainder-spec : {M : Type 1} → statement M
