@@ -7,7 +7,7 @@ use Prim.Native.Nat.{ℕ, zero, suc, _+_, _-_, _*_, _/_, _%_, _<_, _≤_}
 use native.Mathlib.Nat.{div-add-mod, mod-lt, mul-suc, zero-lt-suc}
 use lib.Dec.{ltb}
 use native.Mathlib.Omega.{arith}
-use lib.IntN.{ℤ, pos, negsuc, sucℤ, predℤ, negℤ, subℕ, _+ℤ_, _-ℤ_, _*ℤ_, +ℤ-idr, +ℤ-comm, +ℤ-assoc, +ℤ-sucℤ, +ℤ-predℤ, +ℤ-negℤ-cancel, -ℤ-+ℤ-cancel, zero-*ℤ, sucℤ-*ℤ, predℤ-*ℤ, negℤ-negℤ}
+use lib.IntN.{ℤ, pos, negsuc, sucℤ, predℤ, negℤ, natAbs, subℕ, _+ℤ_, _-ℤ_, _*ℤ_, +ℤ-idr, +ℤ-comm, +ℤ-assoc, +ℤ-sucℤ, +ℤ-predℤ, +ℤ-negℤ-cancel, -ℤ-+ℤ-cancel, zero-*ℤ, *ℤ-comm, sucℤ-*ℤ, predℤ-*ℤ, negℤ-negℤ}
 use lib.Signed.{mag, shrZ}
 use borrow.Author.Tests.{ltb-true, ltb-false}
 
@@ -35,6 +35,16 @@ negate-product (pos (suc n)) (pos k) = refl
 negate-product (pos (suc n)) (negsuc k) = sym (negℤ-negℤ _)
 negate-product (negsuc n) (pos k) = sym (negℤ-negℤ _)
 negate-product (negsuc n) (negsuc k) = refl
+
+pub negate-right : (x y : ℤ) → x *ℤ negℤ y ≡ negℤ (x *ℤ y)
+negate-right x y = *ℤ-comm x (negℤ y) ∙ negate-product y x ∙ ap negℤ (*ℤ-comm y x)
+
+pub negate-both : (x y : ℤ) → negℤ x *ℤ negℤ y ≡ x *ℤ y
+negate-both x y = negate-product x (negℤ y) ∙ ap negℤ (negate-right x y) ∙ negℤ-negℤ (x *ℤ y)
+
+pub natAbs-negate : (n : ℕ) → natAbs (negℤ (pos n)) ≡ n
+natAbs-negate zero = refl
+natAbs-negate (suc n) = refl
 
 -- (x + y) z = x z + y z
 pub distribute : (x y z : ℤ) → (x +ℤ y) *ℤ z ≡ x *ℤ z +ℤ y *ℤ z

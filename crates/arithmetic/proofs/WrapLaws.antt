@@ -1,7 +1,7 @@
 -- Laws of `wrap`: it gives the one number of 32 bits that differs by a multiple of 2^32, so sums, differences and products of wrapped numbers wrap to the wrapped ones.
 -- Assumes nothing.
 use mathlib.Core.Path.{_≡_, refl, sym, ap, _∙_}
-use Prim.Native.Nat.{ℕ, zero, suc, _+_, _-_, _*_, _/_, _%_, _<_, _≤_}
+use Prim.Native.Nat.{ℕ, zero, suc, _-_, _*_, _%_, _<_, _≤_}
 use native.Mathlib.Omega.{arith}
 use native.Mathlib.Decide.{decLt}
 use lib.IntN.{ℤ, pos, negsuc, sucℤ, predℤ, negℤ, _+ℤ_, _-ℤ_, _*ℤ_, +ℤ-idr, +ℤ-comm, +ℤ-assoc, -ℤ-+ℤ-cancel, *ℤ-comm, sucℤ-*ℤ, predℤ-*ℤ}

@@ -10,7 +10,8 @@ use mir.Val.{SFits, toZ, ofZ}
 use mir.Facts.{toZ-ofZ}
 use Rattle.arithmetic.specs.Quotient.{Division}
 use Rattle.arithmetic.proofs.Operands.{wide, operand, number, product-fits}
-use Rattle.arithmetic.proofs.QuotientLaws.{quotient-fits, remainder-fits, cut-fits, cut-left-fits, cut-down, cut-up}
+use Rattle.arithmetic.proofs.QuotientLaws.{quotient-fits, remainder-fits}
+use Rattle.arithmetic.proofs.CutLaws.{cut-fits, cut-left-fits, cut-down, cut-up}
 use Rattle.arithmetic.proofs.divide.Statement.{statement}
 use Rattle.arithmetic.proofs.divide.Tie as tie
 use Rattle.arithmetic.proofs.divide.Reads as reads
