@@ -50,9 +50,11 @@ fn divide(x: i32, y: i32) -> Parts
     let quotient = x / y;
     let remainder = x % y;
     if (remainder as i64) * (y as i64) < 0 {
+        let below = quotient - 1;
+        let rest = remainder + y;
         Parts {
-            quotient: quotient - 1,
-            remainder: remainder + y,
+            quotient: below,
+            remainder: rest,
         }
     } else {
         Parts {

@@ -75,11 +75,11 @@ module _ (c : lts.Then1 reads.Pre reads.Post) where
   lower-remainder : SFits w32 (remZ (x s) (y s) +ℤ y s)
   lower-remainder = remainder-fits lower (s .fits .y)
 
-sub-t10 : tie.Need-sub-t10
-sub-t10 c = rw (toZ-ofZ (c .before .fits .x), toZ-ofZ (c .before .fits .y), toZ-ofZ (quotient-is (c .before))) (lower-quotient c)
+sub-below : tie.Need-sub-below
+sub-below c = rw (toZ-ofZ (c .before .fits .x), toZ-ofZ (c .before .fits .y), toZ-ofZ (quotient-is (c .before))) (lower-quotient c)
 
-add-t11 : tie.Need-add-t11
-add-t11 c = rw (toZ-ofZ (c .before .fits .x), toZ-ofZ (c .before .fits .y), toZ-ofZ (remainder-is (c .before))) (lower-remainder c)
+add-rest : tie.Need-add-rest
+add-rest c = rw (toZ-ofZ (c .before .fits .x), toZ-ofZ (c .before .fits .y), toZ-ofZ (remainder-is (c .before))) (lower-remainder c)
 
 returns : tie.Need-returns
 returns c =
@@ -99,4 +99,4 @@ returns-2 c =
     (cut-down (x s) (y s) (s .pre .0) (ap (λ u. ltZ u (pos 0)) (sym (product-right s)) ∙ c .if1 .left))
 
 pub divide-spec : {M : Type 1} → statement M
-divide-spec = tie.close (tie.spec div-quotient rem-remainder cast-if1 cast-if1-2 mul-if1 sub-t10 add-t11 returns returns-2)
+divide-spec = tie.close (tie.spec div-quotient rem-remainder cast-if1 cast-if1-2 mul-if1 sub-below add-rest returns returns-2)
