@@ -91,8 +91,8 @@ impl Lane {
             3 => registers[a] = registers[b].wrapping_add(registers[c]),
             4 => registers[a] = registers[b].wrapping_sub(registers[c]),
             5 => registers[a] = registers[b].wrapping_mul(registers[c]),
-            6 if registers[c] != 0 => registers[a] = registers[b].wrapping_div(registers[c]),
-            7 if registers[c] != 0 => registers[a] = registers[b].wrapping_rem(registers[c]),
+            6 if registers[c] != 0 => registers[a] = divided(registers[b], registers[c]).0,
+            7 if registers[c] != 0 => registers[a] = divided(registers[b], registers[c]).1,
             8 => next = u16::from(i.c),
             9 => {
                 if registers[a] == 0 {
@@ -198,5 +198,23 @@ impl Lane {
 
     pub(crate) fn count_call(&mut self) {
         self.accepted = self.accepted.saturating_add(1);
+    }
+}
+
+/// The quotient rounded toward minus infinity, and the remainder that belongs to
+/// it: zero, or of the divisor's sign. The divisor is not zero.
+#[inline(always)]
+fn divided(dividend: i32, divisor: i32) -> (i32, i32) {
+    if divisor == -1 {
+        // The negative of the least number wraps, and is that number again.
+        return (dividend.wrapping_neg(), 0);
+    }
+    // Rust cuts toward zero, which lies one too high for a quotient below zero
+    // that is not whole.
+    let (quotient, rest) = (dividend / divisor, dividend % divisor);
+    if rest != 0 && (rest < 0) != (divisor < 0) {
+        (quotient - 1, rest + divisor)
+    } else {
+        (quotient, rest)
     }
 }

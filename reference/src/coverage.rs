@@ -38,7 +38,7 @@ const REFUSED: [usize; 10] = [1, 2, 3, 4, 5, 6, 7, 8, 15, 17];
 const LINES: [&str; 3] = ["out ", "end ", "grow "];
 const CONDITIONS: [&str; 5] = ["stop", "fault", "empty", "full", "run"];
 const ANSWERS: [&str; 4] = ["moved", "waiting-empty", "waiting-full", "ended"];
-const SPECIAL: [&str; 12] = [
+const SPECIAL: [&str; 20] = [
     "the end received",
     "sent to an ended receiver",
     "fault at a zero divisor",
@@ -51,7 +51,17 @@ const SPECIAL: [&str; 12] = [
     "of these in a ring of three or more",
     "relief: 13",
     "relief: 14",
+    "divide: negative by positive, with a remainder",
+    "divide: positive by negative, with a remainder",
+    "divide: both negative, with a remainder",
+    "divide: signs differ, a multiple",
+    "remainder: negative by positive, with a remainder",
+    "remainder: positive by negative, with a remainder",
+    "remainder: both negative, with a remainder",
+    "remainder: signs differ, a multiple",
 ];
+/// Where the divisions by op 6, and then those by op 7, begin among these.
+const DIVISIONS: usize = 12;
 
 impl Coverage {
     /// Counts one case and its answer.
@@ -119,6 +129,21 @@ impl Picks {
     }
 }
 
+/// Which of the four kinds of division this is, of those that show how a quotient
+/// is rounded. By 1 and −1 every number is a multiple; these do not count.
+fn division(dividend: i32, divisor: i32) -> Option<usize> {
+    if (-1..=1).contains(&divisor) {
+        return None;
+    }
+    match (dividend.signum(), divisor.signum(), dividend % divisor == 0) {
+        (-1, 1, false) => Some(0),
+        (1, -1, false) => Some(1),
+        (-1, -1, false) => Some(2),
+        (-1, 1, true) | (1, -1, true) => Some(3),
+        _ => None,
+    }
+}
+
 impl Watch for Picks {
     fn picking(&mut self, lane: &Lane, process: usize) {
         let instruction = lane.instruction(process);
@@ -130,6 +155,9 @@ impl Watch for Picks {
             6 | 7 => {
                 special[2] = register(c) == 0;
                 special[5] = register(b) == i32::MIN && register(c) == -1;
+                if let Some(kind) = division(register(b), register(c)) {
+                    special[DIVISIONS + 4 * usize::from(op - 6) + kind] = true;
+                }
             }
             11 => special[0] = channel().held == 0 && channel().closed,
             12 => {

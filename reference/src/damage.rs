@@ -111,7 +111,8 @@ fn slot(random: &mut Random, bytes: &mut [u8]) {
 fn too_many(bytes: &mut Vec<u8>) {
     let slot = SLOTS + 4 * (usize::from(bytes[3]).clamp(1, PROCESSES) - 1);
     let count = COUNT + 1;
-    let code_blocks = usize::from(pair(bytes, slot) + count).div_ceil(PER_BLOCK);
+    let total = usize::from(pair(bytes, slot)) + usize::from(count);
+    let code_blocks = total.div_ceil(PER_BLOCK);
     if code_blocks <= 8 && bytes.len() <= BLOCK * (1 + code_blocks) {
         put_pair(bytes, slot + 2, count);
         bytes.resize(BLOCK * (1 + code_blocks), 0);

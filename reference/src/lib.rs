@@ -1,8 +1,8 @@
 //! A second implementation of the lane run-time, written from documents alone:
-//! the scope document, the decisions on its open points (docs/DECISIONS.md) and
-//! the page on scripts (docs/SCRIPTS.md). It exists to be compared with the
-//! first one, and to say how many instructions the same work takes in ordinary
-//! Rust.
+//! the scope document, the requests that changed it, the decisions on its open
+//! points (docs/DECISIONS.md) and the page on scripts (docs/SCRIPTS.md). It
+//! exists to be compared with the first one, and to say how many instructions
+//! the same work takes in ordinary Rust.
 //!
 //! | module     | what it holds                                              |
 //! |------------|------------------------------------------------------------|

@@ -9,7 +9,7 @@ use crate::script::{Edit, ALL_CELLS};
 
 /// Such edits of a sound lane, made one after the other.
 pub fn edits(random: &mut Random, lane: &Lane) -> Vec<Edit> {
-    match random.below(18) {
+    match random.below(19) {
         0 | 1 => vec![register(random, lane)],
         2 => vec![cell(random, lane)],
         3 => vec![Edit::Accepted(count(random))],
@@ -18,7 +18,7 @@ pub fn edits(random: &mut Random, lane: &Lane) -> Vec<Edit> {
         12 | 13 => end(random, lane),
         14 => vec![own_capacity(random, lane)],
         15 => code_byte(random, lane).into_iter().collect(),
-        16 => division(random, lane),
+        16 | 17 => division(random, lane),
         _ => jam(random, lane),
     }
 }
@@ -72,23 +72,40 @@ fn positions(lane: &Lane, process: usize, kind: impl Fn(&Instruction) -> bool) -
     (0..).zip(program).filter(|(_, i)| kind(i)).map(|(position, _)| position).collect()
 }
 
-/// A process that is about to divide: the least number by −1, or any by zero.
+/// A process that is about to divide.
 fn division(random: &mut Random, lane: &Lane) -> Vec<Edit> {
-    let number = random.below(usize::from(lane.network.processes));
-    let at = positions(lane, number, |i| (6..=7).contains(&i.op) && i.b != i.c);
-    if at.is_empty() {
+    let divides = |i: &Instruction| (6..=7).contains(&i.op) && i.b != i.c;
+    let of = |number| positions(lane, number, divides).into_iter().map(move |at| (number, at));
+    let all: Vec<(usize, u16)> = (0..lane.network.processes.into()).flat_map(of).collect();
+    if all.is_empty() {
         return Vec::new();
     }
-    let position = random.one(&at);
+    let (number, position) = random.one(&all);
     let i = lane.network.code[usize::from(lane.network.slots[number].first + position)];
     let register = |field: u8| REGISTERS * number + usize::from(field);
     let moves = lane.processes[number].moves;
-    let value = random.value();
+    let (dividend, divisor) = operands(random);
     vec![
         Edit::Process { number, position, condition: Condition::Live, moves },
-        Edit::Register(register(i.b), random.one(&[i32::MIN, i32::MIN, value])),
-        Edit::Register(register(i.c), random.one(&[-1, -1, 0])),
+        Edit::Register(register(i.b), dividend),
+        Edit::Register(register(i.c), divisor),
     ]
+}
+
+/// The least number by −1, any by zero or −1, or two numbers, not both positive,
+/// with or without a remainder.
+fn operands(random: &mut Random) -> (i32, i32) {
+    let value = random.value();
+    match random.below(6) {
+        0 => (i32::MIN, -1),
+        1 => (value, random.one(&[0, -1])),
+        _ => {
+            let divisor = random.one(&[-10, -7, -3, -2, 2, 3, 7, 10, i32::MIN, i32::MAX]);
+            let multiple = divisor.wrapping_mul(random.between(0, 40) as i32 - 20);
+            let dividend = random.one(&[value, value, multiple, multiple, i32::MIN, i32::MAX]);
+            (if divisor > 0 && dividend > 0 { -dividend } else { dividend }, divisor)
+        }
+    }
 }
 
 /// A channel in any state that its two ends allow.

@@ -68,15 +68,13 @@ impl Plain<'_> {
             4 => process.registers[a] = wrapped(value(b) - value(c)),
             5 => process.registers[a] = wrapped(value(b) * value(c)),
             6 | 7 => {
-                // In 64 bits no quotient of 32-bit numbers overflows, and
-                // Rust's division cuts toward zero.
                 let (dividend, divisor) = (value(b), value(c));
                 if divisor == 0 {
                     end = Some(Condition::Faulted);
-                } else if op == 6 {
-                    process.registers[a] = wrapped(dividend / divisor);
                 } else {
-                    process.registers[a] = wrapped(dividend - dividend / divisor * divisor);
+                    let quotient = rounded_down(dividend, divisor);
+                    let remainder = dividend - divisor * quotient;
+                    process.registers[a] = wrapped(if op == 6 { quotient } else { remainder });
                 }
             }
             8 => jump = Some(c),
@@ -112,6 +110,14 @@ impl Plain<'_> {
         }
         self.processes[number] = process;
     }
+}
+
+/// The quotient of two 32-bit numbers, rounded toward minus infinity. 53 bits
+/// are enough: a whole quotient comes out as it is. Any other lies 1 / |divisor|
+/// or more away from every whole number and comes out wrong by |quotient| / 2^53
+/// at most, which is far less, since |dividend| is at most 2^31.
+fn rounded_down(dividend: i64, divisor: i64) -> i64 {
+    (dividend as f64 / divisor as f64).floor() as i64
 }
 
 /// The 32-bit number that stands for this one when sums and products wrap.

@@ -1,4 +1,5 @@
-//! The examples a to m of the scope document, and its sample listing.
+//! The examples a to m of the scope document, and its sample listing. Example d
+//! is the one of the request that quotients round down.
 
 mod common;
 use common::*;
@@ -8,6 +9,7 @@ use reference::check::check;
 use reference::file;
 use reference::lane::{Condition, Lane};
 use reference::network::{code, Instruction};
+use reference::plain::Plain;
 use reference::refusal::Refusal;
 use reference::relief::{relieve, Relieved};
 
@@ -39,23 +41,83 @@ fn c_product_wraps() {
     assert_eq!(register_0(code(5, 0, 1, 1), [7, 65_536, 0, 0, 0, 0, 0, 0]), 0);
 }
 
+/// Quotient and remainder, in whichever register they go, on a lane and in the
+/// plain order.
+fn divided(dividend: i32, divisor: i32) -> (i32, i32) {
+    let registers = [9, dividend, divisor, 0, 0, 0, 0, 0];
+    let result = |op: u8, a: u8| {
+        let lane = after(code(op, a, 1, 2), registers);
+        let mut plain = Plain::start(&lane.network, &[Vec::new()]);
+        plain.processes[0].registers = registers;
+        plain.round();
+        assert_eq!(plain.processes[0], lane.processes[0], "{dividend} by {divisor}");
+        lane.processes[0].registers[usize::from(a)]
+    };
+    let [quotient, remainder] = [6, 7].map(|op| {
+        let results = [0, 1, 2].map(|a| result(op, a));
+        assert_eq!(results, [results[0]; 3]);
+        results[0]
+    });
+    (quotient, remainder)
+}
+
 #[test]
 fn d_quotient_and_remainder() {
-    let registers = [9, -7, 2, 0, 0, 0, 0, 0];
-    assert_eq!(register_0(code(6, 0, 1, 2), registers), -3);
-    assert_eq!(register_0(code(7, 0, 1, 2), registers), -1);
-    let registers = [9, 7, -2, 0, 0, 0, 0, 0];
-    assert_eq!(register_0(code(6, 0, 1, 2), registers), -3);
-    assert_eq!(register_0(code(7, 0, 1, 2), registers), 1);
-    let registers = [9, i32::MIN, -1, 0, 0, 0, 0, 0];
-    assert_eq!(register_0(code(6, 0, 1, 2), registers), i32::MIN);
-    assert_eq!(register_0(code(7, 0, 1, 2), registers), 0);
+    assert_eq!(divided(-7, 2), (-4, 1));
+}
+
+/// Worked out by hand.
+#[test]
+fn quotients_round_down() {
+    let least = i32::MIN;
+    let cases = [
+        ((7, 2), (3, 1)),
+        ((-7, 2), (-4, 1)),
+        ((7, -2), (-4, -1)),
+        ((-7, -2), (3, -1)),
+        ((6, -3), (-2, 0)),
+        ((-6, 3), (-2, 0)),
+        ((0, -5), (0, 0)),
+        ((least, 1), (least, 0)),
+        ((least, -1), (least, 0)),
+        ((least, 2_147_483_647), (-2, 2_147_483_646)),
+        ((2_147_483_647, least), (-1, -1)),
+    ];
+    for ((dividend, divisor), expected) in cases {
+        assert_eq!(divided(dividend, divisor), expected, "{dividend} by {divisor}");
+    }
+}
+
+/// All whole q and r with dividend = divisor × q + r, where r is nearer to zero
+/// than the divisor, and zero or of its sign. Such a q lies less than 1 from the
+/// exact quotient, so that only a few need to be tried.
+fn pairs(dividend: i64, divisor: i64) -> Vec<(i64, i64)> {
+    let near = dividend / divisor;
+    let tried = (near - 2..=near + 2).map(|q| (q, dividend - divisor * q));
+    let fits = |r: i64| r.abs() < divisor.abs() && (r == 0 || (r < 0) == (divisor < 0));
+    tried.filter(|&(_, r)| fits(r)).collect()
+}
+
+#[test]
+fn quotient_and_remainder_are_the_only_pair() {
+    let extremes = [i32::MIN, i32::MIN + 1, -65_536, 65_536, i32::MAX - 1, i32::MAX];
+    let numbers: Vec<i32> = (-20..=20).chain(extremes).collect();
+    for &dividend in &numbers {
+        for &divisor in numbers.iter().filter(|&&divisor| divisor != 0) {
+            // The one quotient that does not fit 32 bits.
+            if (dividend, divisor) != (i32::MIN, -1) {
+                let (q, r) = divided(dividend, divisor);
+                let expected = pairs(dividend.into(), divisor.into());
+                assert_eq!([(q.into(), r.into())], expected[..], "{dividend} by {divisor}");
+            }
+        }
+    }
 }
 
 #[test]
 fn e_by_zero() {
-    for op in [6, 7] {
-        let registers = [9, -7, 0, 0, 0, 0, 0, 0];
+    for (op, dividend) in [(6, -7), (7, -7), (6, 0), (7, 0), (6, i32::MIN), (7, i32::MIN)] {
+        let registers = [9, dividend, 0, 0, 0, 0, 0, 0];
         let lane = after(code(op, 0, 1, 2), registers);
         assert_eq!(lane.processes[0].condition, Condition::Faulted);
         assert_eq!(lane.processes[0].registers, registers);

@@ -1,9 +1,12 @@
 //! The generators: the same seed gives the same case and the same scripts, and
 //! what should be met is met.
 
-use reference::bench::{bench_watched, LISTING};
-use reference::coverage::Coverage;
+use reference::bench::{bench_watched, Watch, LISTING};
+use reference::calls::Answer;
+use reference::coverage::{Coverage, Picks};
 use reference::gen::{case, following};
+use reference::lane::Lane;
+use reference::network::{code, Network, Record, OUTSIDE};
 use reference::plans::largest;
 use reference::replay::Replay;
 use reference::scripts::Scripts;
@@ -28,7 +31,7 @@ fn cases_can_be_repeated() {
 }
 
 #[test]
-fn every_refusal_of_the_bench_is_met() {
+fn lanes_meet_every_case() {
     let mut answers = BTreeMap::new();
     let mut coverage = Coverage::default();
     let mut seed = 7;
@@ -50,6 +53,39 @@ fn every_refusal_of_the_bench_is_met() {
         );
     }
     assert!(answers[&None] > 2_000);
+    assert_eq!(coverage.missing(), Vec::<String>::new());
+}
+
+/// Divisions are counted where they show how a quotient is rounded.
+#[test]
+fn divisions_are_counted_by_their_signs() {
+    let counted = |op: u8, dividend: i32, divisor: i32| {
+        let program = vec![code(op, 0, 1, 2), code(0, 0, 0, 0)];
+        let out = Record { sender: 0, receiver: OUTSIDE, capacity: 1 };
+        let mut lane = Lane::fresh(Network::of(&[program], &[out]));
+        lane.processes[0].registers[1..3].copy_from_slice(&[dividend, divisor]);
+        let mut picks = Picks::default();
+        picks.picking(&lane, 0);
+        picks.picked(Answer::Moved);
+        let start = ["divide: ", "remainder: "][usize::from(op) - 6];
+        let met = picks.counts().into_iter().filter(|&(_, count)| count > 0);
+        met.filter_map(|(name, _)| name.strip_prefix(start).map(str::to_string)).collect()
+    };
+    let cases: [(&[(i32, i32)], &[&str]); 5] = [
+        (&[(-7, 2), (i32::MIN, i32::MAX)], &["negative by positive, with a remainder"]),
+        (&[(7, -2), (i32::MAX, i32::MIN)], &["positive by negative, with a remainder"]),
+        (&[(-7, -2), (-1, i32::MIN)], &["both negative, with a remainder"]),
+        (&[(6, -3), (-6, 3), (i32::MIN, 2)], &["signs differ, a multiple"]),
+        (&[(7, 2), (6, 3), (-6, -3), (0, -5), (5, -1), (-5, 1), (i32::MIN, -1), (-7, 0)], &[]),
+    ];
+    for (divisions, names) in cases {
+        for &(dividend, divisor) in divisions {
+            for op in [6, 7] {
+                let met: Vec<String> = counted(op, dividend, divisor);
+                assert_eq!(met, names, "{dividend} by {divisor}");
+            }
+        }
+    }
 }
 
 #[test]
