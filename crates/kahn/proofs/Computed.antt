@@ -1,10 +1,12 @@
 -- What the witnesses share: what is unfolded to compute, cells and a board to compute on, a call beside its answer.
 -- Assumes nothing.
-use mathlib.Core.Path.{_≡_, refl}
-use mathlib.Core.Bool.{true}
+use mathlib.Core.Path.{_≡_, refl, sym, ap, _∙_}
+use mathlib.Core.Bool.{Bool, true, false≢true, not, _&&_}
 use mathlib.Core.List.{List, [], _∷_}
-use Prim.Native.Nat.{ℕ, _<_}
-use borrow.Author.Tests.{ltb-true, eqb-true}
+use Prim.Native.Nat.{ℕ, zero, suc, _+_, _-_, _<_, _≤_}
+use native.Mathlib.Omega.{arith}
+use native.Mathlib.Decide.{decLt}
+use borrow.Author.Tests.{ltb-true, eqb-true, eq-eqb}
 use lib.Dec.{eqb, ltb}
 use lib.ListN.{length, replicate, length-replicate}
 use lib.IntN.{ℤ}
@@ -61,6 +63,35 @@ pub outside-says : (n : Network) (c : ℕ) → fromOutside n c ≡ true → (c <
 outside-says n c o =
     let b = both-true (ltb c (n .channels)) (eqb (senderOf n c) outside) o in
     (ltb-true c (n .channels) (b .0), eqb-true (senderOf n c) outside (b .1))
+
+-- the k channels from number c on have their senders inside
+abbrev insideFrom : Network → ℕ → ℕ → Bool
+insideFrom n c zero = true
+insideFrom n c (suc k) = not (eqb (senderOf n c) outside) && insideFrom n (suc c) k
+
+inside-from : (n : Network) (c k d : ℕ) → insideFrom n c k ≡ true → c ≤ d → d < c + k → senderOf n d ≡ outside → ⊥
+inside-from n c zero d e l m o = omega arith
+inside-from n c (suc k) d e l m o =
+    let b = both-true (not (eqb (senderOf n c) outside)) (insideFrom n (suc c) k) e in
+    at (decLt c d) (b .0) (λ q. inside-from n (suc c) k d (b .1) q (omega arith) o)
+  where
+    at : Dec (c < d) → not (eqb (senderOf n c) outside) ≡ true → (c < d → ⊥) → ⊥
+    at (yes q) f g = g q
+    at (no q) f g =
+        let t : c ≡ d = omega arith in
+        false≢true (sym (ap not (eq-eqb (senderOf n c) outside (ap (senderOf n) t ∙ o))) ∙ f)
+
+-- where channel 0 alone comes from outside, what holds of it holds of all that do
+pub only-first : (n : Network) → insideFrom n 1 (n .channels - 1) ≡ true → (P : ℕ → Type 0) → P 0 → (c : ℕ) → fromOutside n c ≡ true → P c
+only-first n e P h zero o = h
+only-first n e P h (suc c) o =
+    let b = outside-says n (suc c) o in
+    absurd (inside-from n 1 (n .channels - 1) (suc c) e (omega arith) (omega arith) (b .1))
+
+-- what holds of process 0 holds of each of one process
+pub one-process : (P : ℕ → Type 0) → P 0 → (p : ℕ) → p < 1 → P p
+one-process P h zero l = h
+one-process P h (suc p) l = absurd (omega arith)
 
 -- ---- a call with its answer
 pub data Entry : Type 0 where

@@ -4,7 +4,7 @@
 use mathlib.Core.Path.{_≡_, refl, sym, _∙_}
 use mathlib.Core.Bool.{true, cond}
 use mathlib.Core.List.{List, [], _∷_, _++_}
-use Prim.Native.Nat.{ℕ, zero, suc, _<_}
+use Prim.Native.Nat.{ℕ}
 use native.Mathlib.Omega.{arith}
 use lib.Dec.{eqb}
 use lib.ListN.{length, replicate}
@@ -12,7 +12,7 @@ use lib.IntN.{ℤ, pos, negsuc}
 use lib.Signed.{quotZ, remZ}
 use Rattle.network.specs.declared.Network.{Network}
 use Rattle.network.specs.declared.Instruction.{Instruction}
-use Rattle.network.specs.Rules.{senderOf, receiverOf, outside, passes}
+use Rattle.network.specs.Rules.{receiverOf, passes}
 use Rattle.network.proofs.Unused.{passes-by}
 use Rattle.arithmetic.specs.Wrap.{wrap}
 use Rattle.arithmetic.specs.Quotient.{value, unlessZero}
@@ -26,13 +26,12 @@ use Rattle.lane.specs.Pick.{channelIn, instructionFor, putBack}
 use Rattle.lane.specs.Calls.{moved, ended, accepted, called, answerTo}
 use Rattle.lane_file.specs.File.{fileOf}
 use Rattle.lane_file.proofs.RoundTrip.{Shaped}
-use Rattle.kahn.specs.Plain.{fromOutside}
 use Rattle.kahn.specs.Calls.{Call, pick, feed, close, take, relieve, told, Made, made, sent}
 use Rattle.kahn.specs.Boards.{board, Fair, AtRest, Alike}
 use Rattle.kahn.specs.Theorem.{ReadAs}
 use Rattle.kahn.proofs.Tested.{read-by}
 use Rattle.kahn.proofs.Traces.{Fit, bare, seenBy, replies, replies-are, sent-is, FairOn, fair-by, WholeOn, Rests, rest-by}
-use Rattle.kahn.proofs.Computed.{tests, files, calls, filled, many-filled, fit, outside-says, Entry, _⇒_, callsOf, repliesOf}
+use Rattle.kahn.proofs.Computed.{tests, files, calls, filled, many-filled, fit, only-first, one-process, Entry, _⇒_, callsOf, repliesOf}
 use Rattle.kahn.proofs.Whole.{any-spare-fits}
 
 -- ---- the lane: an amount comes on channel 0, half of it goes out on channel 1
@@ -67,21 +66,6 @@ read = read-by half half-shaped pass refl
 abbrev input : ℕ → List ℤ
 input c = cond (eqb c 0) (negsuc 6 ∷ []) []
 
--- channel 0 alone comes from outside, and process 0 is the only one
-only : (P : ℕ → Type 0) → P 0 → (c : ℕ) → fromOutside half c ≡ true → P c
-only P h c o =
-    let b = outside-says half c o in
-    at c (b .0) (b .1)
-  where
-    at : (c : ℕ) → c < 2 → senderOf half c ≡ outside → P c
-    at zero l e = h
-    at (suc zero) l e = absurd (omega arith)
-    at (suc (suc c)) l e = absurd (omega arith)
-
-one-process : (P : ℕ → Type 0) → P 0 → (p : ℕ) → p < 1 → P p
-one-process P h zero l = h
-one-process P h (suc p) l = absurd (omega arith)
-
 -- ---- a board of these rules
 abbrev entries : List Entry
 entries =
@@ -110,11 +94,11 @@ answered = replies-are script start fits
 
 fair : Fair half input script start
 unfolding calls
-fair = fair-by script start fits half input (only (FairOn script start fits half input) (record { feeds = record { rest = []; longer = refl }; last = refl; whole = λ e. refl }))
+fair = fair-by script start fits half input (only-first half refl (FairOn script start fits half input) (record { feeds = record { rest = []; longer = refl }; last = refl; whole = λ e. refl }))
 
 rest : AtRest half input script start
 unfolding calls
-rest = rest-by script start fits half input (only (WholeOn script start fits half input) (refl, refl)) (one-process (Rests script start fits half input) refl)
+rest = rest-by script start fits half input (only-first half refl (WholeOn script start fits half input) (refl, refl)) (one-process (Rests script start fits half input) refl)
 
 rounded-down : sent script start 1 ≡ negsuc 3 ∷ []
 unfolding calls

@@ -25,13 +25,8 @@ use Rattle.kahn.specs.Theorem.{ReadAs, Determined}
 use Rattle.kahn.proofs.InTurn.{plain, process, input}
 use Rattle.kahn.proofs.Tested.{alike-by, read-by}
 use Rattle.kahn.proofs.Traces.{Fit, replies, replies-are, moved-is, sent-is, taken-is, left-is, FairOn, fair-by, WholeOn, Rests, rest-by}
-use Rattle.kahn.proofs.Computed.{tests, files, calls, filled, many-filled, fit, outside-says, Entry, _⇒_, callsOf, repliesOf}
+use Rattle.kahn.proofs.Computed.{tests, files, calls, filled, many-filled, fit, outside-says, only-first, one-process, Entry, _⇒_, callsOf, repliesOf}
 use Rattle.kahn.proofs.Whole.{any-spare-fits}
-
--- what holds of process 0 holds of each of one process
-one-process : (P : ℕ → Type 0) → P 0 → (p : ℕ) → p < 1 → P p
-one-process P h zero l = h
-one-process P h (suc p) l = absurd (omega arith)
 
 -- ==== document 01's sample lane, with capacities 1 and 2: one process, channel 0 in, 1 out; each message is doubled
 pass₁ : passes (sample 1) ≡ true
@@ -63,25 +58,14 @@ byte₂ : getD (fileOf (sample 2)) 75 0 ≡ 2
 unfolding files
 byte₂ = refl
 
--- channel 0 alone comes from outside
-only : (k : ℕ) (P : ℕ → Type 0) → P 0 → (c : ℕ) → fromOutside (sample k) c ≡ true → P c
-only k P h c o =
-    let b = outside-says (sample k) c o in
-    at c (b .0) (b .1)
-  where
-    at : (c : ℕ) → c < 2 → senderOf (sample k) c ≡ outside → P c
-    at zero l e = h
-    at (suc zero) l e = absurd (omega arith)
-    at (suc (suc c)) l e = absurd (omega arith)
-
 -- what is left to compute, on channel 0 and of process 0
 sample-fair : (k : ℕ) (ks : List Call) (w : World) (f : Fit w) → FairOn ks w f (sample k) input 0 → Fair (sample k) input ks w
-sample-fair k ks w f h = fair-by ks w f (sample k) input (only k (FairOn ks w f (sample k) input) h)
+sample-fair k ks w f h = fair-by ks w f (sample k) input (only-first (sample k) refl (FairOn ks w f (sample k) input) h)
 
 sample-rest : (k : ℕ) (ks : List Call) (w : World) (f : Fit w) → WholeOn ks w f (sample k) input 0 → Rests ks w f (sample k) input 0
     → AtRest (sample k) input ks w
 sample-rest k ks w f h q =
-    rest-by ks w f (sample k) input (only k (WholeOn ks w f (sample k) input) h) (one-process (Rests ks w f (sample k) input) q)
+    rest-by ks w f (sample k) input (only-first (sample k) refl (WholeOn ks w f (sample k) input) h) (one-process (Rests ks w f (sample k) input) q)
 
 -- ---- capacities 1: a feed to a full channel and a pick of no process are refused; the process waits for room, then for a message
 abbrev entries₁ : List Entry

@@ -7,21 +7,21 @@ use mathlib.Core.List.{List, [], _∷_, _++_}
 use Prim.Native.Nat.{ℕ, zero, suc, _<_}
 use native.Mathlib.Omega.{arith}
 use lib.IntN.{pos, negsuc}
-use Rattle.network.specs.Rules.{senderOf, outside, passes}
+use Rattle.network.specs.Rules.{passes}
 use Rattle.network.proofs.Unused.{passes-by}
 use Rattle.process.specs.declared.Condition.the-variants.{Stopped}
 use Rattle.lane.specs.State.{World, processOf}
 use Rattle.lane.specs.Calls.{moved, waitingEmpty, waitingFull, ended, accepted, value, theEnd}
 use Rattle.lane_file.specs.File.{fileOf}
 use Rattle.lane_file.proofs.RoundTrip.{Shaped}
-use Rattle.kahn.specs.Plain.{fromOutside, withoutCapacities, plainAfter}
+use Rattle.kahn.specs.Plain.{withoutCapacities, plainAfter}
 use Rattle.kahn.specs.Calls.{Call, pick, feed, close, take, told, after, sent, movedIn}
 use Rattle.kahn.specs.Boards.{board, Fair, AtRest, Alike, AgreeWith}
 use Rattle.kahn.specs.Theorem.{ReadAs, Holds, Determined}
 use Rattle.kahn.proofs.InTurn.{plain, process, passesOn, addsUp, relay, input}
 use Rattle.kahn.proofs.Tested.{alike-by, read-by}
 use Rattle.kahn.proofs.Traces.{Fit, replies, replies-are, moved-is, sent-is, left-is, FairOn, fair-by, WholeOn, Rests, rest-by}
-use Rattle.kahn.proofs.Computed.{tests, files, calls, filled, many-filled, fit, outside-says, Entry, _⇒_, callsOf, repliesOf}
+use Rattle.kahn.proofs.Computed.{tests, files, calls, filled, many-filled, fit, only-first, Entry, _⇒_, callsOf, repliesOf}
 use Rattle.kahn.proofs.Whole.{one-board-holds, any-spare-fits}
 
 -- ---- the two files
@@ -48,18 +48,6 @@ alike : Alike (fileOf (relay 1)) (fileOf (relay 2))
 unfolding files
 alike = alike-by (fileOf (relay 1)) (fileOf (relay 2)) refl
 
--- channel 0 alone comes from outside
-only : (k : ℕ) (P : ℕ → Type 0) → P 0 → (c : ℕ) → fromOutside (relay k) c ≡ true → P c
-only k P h c o =
-    let b = outside-says (relay k) c o in
-    at c (b .0) (b .1)
-  where
-    at : (c : ℕ) → c < 3 → senderOf (relay k) c ≡ outside → P c
-    at zero l e = h
-    at (suc zero) l e = absurd (omega arith)
-    at (suc (suc zero)) l e = absurd (omega arith)
-    at (suc (suc (suc c))) l e = absurd (omega arith)
-
 both : (P : ℕ → Type 0) → P 0 → P 1 → (p : ℕ) → p < 2 → P p
 both P g h zero l = g
 both P g h (suc zero) l = h
@@ -67,12 +55,12 @@ both P g h (suc (suc p)) l = absurd (omega arith)
 
 -- what is left to compute, on channel 0 and of processes 0 and 1
 relay-fair : (k : ℕ) (ks : List Call) (w : World) (f : Fit w) → FairOn ks w f (relay k) input 0 → Fair (relay k) input ks w
-relay-fair k ks w f h = fair-by ks w f (relay k) input (only k (FairOn ks w f (relay k) input) h)
+relay-fair k ks w f h = fair-by ks w f (relay k) input (only-first (relay k) refl (FairOn ks w f (relay k) input) h)
 
 relay-rest : (k : ℕ) (ks : List Call) (w : World) (f : Fit w) → WholeOn ks w f (relay k) input 0 → Rests ks w f (relay k) input 0
     → Rests ks w f (relay k) input 1 → AtRest (relay k) input ks w
 relay-rest k ks w f h q r =
-    rest-by ks w f (relay k) input (only k (WholeOn ks w f (relay k) input) h) (both (Rests ks w f (relay k) input) q r)
+    rest-by ks w f (relay k) input (only-first (relay k) refl (WholeOn ks w f (relay k) input) h) (both (Rests ks w f (relay k) input) q r)
 
 -- ---- capacities 1: process 0 goes as far as it can, then process 1
 abbrev entries₁ : List Entry
