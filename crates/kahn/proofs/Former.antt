@@ -152,6 +152,6 @@ unfolding calls
 former-rests = refl
 
 -- .. and another value went out
-pub cut-toward-zero : seenBy former 1 script start .sent ≡ negsuc 2 ∷ []
+pub former-differs : seenBy former 1 script start .sent ≡ negsuc 2 ∷ []
 unfolding calls
-cut-toward-zero = refl
+former-differs = refl
