@@ -87,7 +87,7 @@ LANES = {
         input=[(0, 100), (1, 4), (0, 90), (1, 0), (0, 70), (1, 7)],
         picks=[0, 1] * 10,
     ),
-    # corrections in cents, each split into shares: what a share gets, rounded down, and what is then left over, which is never below zero
+    # corrections in cents, each split into shares: what a share gets, rounded down, and what is then left over, which is not below zero
     "correction": dict(
         processes=[
             # clearing: an amount, a number of shares, the quotient out, the remainder out

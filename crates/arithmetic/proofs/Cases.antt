@@ -20,9 +20,9 @@ abbrev _by_ : ℤ → ℤ → Quotient → Quotient → Case
 _by_ x y q r = record { x = x; y = y; quotient = q; remainder = r }
 
 -- what the definitions say of the same pairs
-abbrev told : List Case → List Case
-told [] = []
-told (k ∷ ks) = (k .x by k .y) (quotientOf (k .x) (k .y)) (remainderOf (k .x) (k .y)) ∷ told ks
+abbrev answered : List Case → List Case
+answered [] = []
+answered (k ∷ ks) = (k .x by k .y) (quotientOf (k .x) (k .y)) (remainderOf (k .x) (k .y)) ∷ answered ks
 
 abbrev minus : ℤ → ℤ
 minus z = pos 0 -ℤ z
@@ -46,7 +46,7 @@ cases =
     ∷ (minus (pos 7) by pos 0) faults faults
     ∷ []
 
-pub all-cases : told cases ≡ cases
+pub all-cases : answered cases ≡ cases
 unfolding quotientOf remainderOf floorOf wrap residue centred
 all-cases = refl
 

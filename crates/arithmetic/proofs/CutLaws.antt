@@ -1,5 +1,5 @@
--- A quotient cut toward zero leaves over less than the divisor too. Where that has the divisor's sign the two are a division as they stand; else one less is
--- the quotient.
+-- A quotient cut toward zero leaves over less than the divisor too. Where that has the divisor's sign the two are a division as they stand; else one less
+-- is the quotient.
 -- Assumes nothing.
 use mathlib.Core.Path.{_≡_, refl, sym, ap, _∙_}
 use mathlib.Core.Bool.{true, false, false≢true, true≢false}

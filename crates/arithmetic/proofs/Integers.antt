@@ -1,5 +1,5 @@
--- Laws of integers that the library does not have: induction up and down, cases on a difference, the size of a negated number, the product distributes and associates,
--- a quotient rounded down and what it leaves over.
+-- Laws of integers that the library does not have: induction up and down, cases on a difference, the size of a negated number, the product distributes
+-- and associates, a quotient rounded down and what it leaves over.
 -- Assumes nothing.
 use mathlib.Core.Path.{_≡_, refl, sym, ap, _∙_}
 use mathlib.Core.Bool.{Bool, true, false, cond}

@@ -25,8 +25,8 @@ unlessZero (pos zero) d = faults
 unlessZero (pos (suc n)) d = d
 unlessZero (negsuc n) d = d
 
--- "round every quotient toward minus infinity": the greatest integer not above x ÷ y. `shrZ` is that by a positive divisor c, a ÷ c of a and
--- −1 − (a ÷ c) of −1 − a; by a negative one both numbers are negated first
+-- "round every quotient toward minus infinity": the greatest integer not above the exact quotient of x by y, which is not zero. By a positive divisor c
+-- `shrZ` is that: n of a, and −1 − n of −1 − a, where n is the natural a / c. By a negative one both numbers are negated first
 unfoldable pub floorOf : ℤ → ℤ → ℤ
 floorOf x (pos c) = shrZ x c
 floorOf x (negsuc c) = shrZ (negℤ x) (suc c)

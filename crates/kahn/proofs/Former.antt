@@ -16,20 +16,22 @@ use Rattle.network.specs.Rules.{receiverOf, passes}
 use Rattle.network.proofs.Unused.{passes-by}
 use Rattle.arithmetic.specs.Wrap.{wrap}
 use Rattle.arithmetic.specs.Quotient.{value, unlessZero}
+use Rattle.process.specs.declared.Condition.{Condition}
+use Rattle.process.specs.declared.Condition.the-variants.{Live, Stopped, Faulted}
 use Rattle.process.specs.Process.{Process, Stepped}
-use Rattle.process.specs.Intent.{Intent}
+use Rattle.process.specs.Intent.{Intent, idle}
 use Rattle.process.specs.Channels.{slot}
-use Rattle.process.specs.Want.{registerOf, divided, want}
+use Rattle.process.specs.Want.{registerOf, divided, wantLive}
 use Rattle.process.specs.Execute.{execute}
 use Rattle.lane.specs.State.{World, cellAt, endedAt, processOf, channelOf}
 use Rattle.lane.specs.Pick.{channelIn, instructionFor, putBack}
-use Rattle.lane.specs.Calls.{moved, ended, accepted, called, answerTo}
+use Rattle.lane.specs.Calls.{moved, ended, accepted, Called, called, refuse, noProcess, answerTo}
 use Rattle.lane_file.specs.File.{fileOf}
 use Rattle.lane_file.proofs.RoundTrip.{Shaped}
 use Rattle.kahn.specs.Calls.{Call, pick, feed, close, take, relieve, told, Made, made, sent}
 use Rattle.kahn.specs.Boards.{board, Fair, AtRest, Alike}
 use Rattle.kahn.specs.Theorem.{ReadAs}
-use Rattle.kahn.proofs.Tested.{read-by}
+use Rattle.kahn.proofs.Tested.{alike-by, read-by}
 use Rattle.kahn.proofs.Traces.{Fit, bare, seenBy, replies, replies-are, sent-is, FairOn, fair-by, WholeOn, Rests, rest-by}
 use Rattle.kahn.proofs.Computed.{tests, files, calls, filled, many-filled, fit, only-first, one-process, Entry, _⇒_, callsOf, repliesOf}
 use Rattle.kahn.proofs.Whole.{any-spare-fits}
@@ -111,24 +113,34 @@ all-round-down f n r a cells many ks g h =
     let d = any-spare-fits (fileOf half) f half n read r a (filled (pos 0)) cells (many-filled (pos 0)) many input script ks fair g in
     sym (d .agree rest h .sends 1) ∙ rounded-down
 
+-- the board above is one of these
+one-of-these : sent script start 1 ≡ negsuc 3 ∷ []
+unfolding files
+one-of-these = all-round-down (fileOf half) half read (alike-by (fileOf half) (fileOf half) refl) (filled (pos 0)) (many-filled (pos 0)) script fair rest
+
 -- ---- a board from before: at a 6 the quotient is cut toward zero, at a 7 the remainder has the dividend's sign, all else is as in these rules. Its
 -- calls after the tests 15 and 16
-abbrev formerWant : Instruction → Process → Intent Process ℤ
-formerWant i q =
+abbrev formerLive : Instruction → Process → Intent Process ℤ
+formerLive i q =
     cond (eqb (i .op) 6) (divided (i .a) (unlessZero (registerOf q (i .c)) (value (wrap (quotZ (registerOf q (i .b)) (registerOf q (i .c)))))) q)
     (cond (eqb (i .op) 7) (divided (i .a) (unlessZero (registerOf q (i .c)) (value (remZ (registerOf q (i .b)) (registerOf q (i .c))))) q)
-    (want i q))
+    (wantLive i q))
+
+abbrev formerWant : Condition → Instruction → Process → Intent Process ℤ
+formerWant Live i q = formerLive i q
+formerWant Stopped i q = idle
+formerWant Faulted i q = idle
 
 abbrev formerStep : ℕ → Instruction → ℕ → World → Stepped
 formerStep p i c w =
-    execute (formerWant i (processOf (w .lane) p)) (processOf (w .lane) p) (channelOf (w .lane) c) (cellAt w (slot c (channelOf (w .lane) c) 0))
-    (endedAt (w .lane) (receiverOf (w .lane .network) c))
+    execute (formerWant (processOf (w .lane) p .condition) i (processOf (w .lane) p)) (processOf (w .lane) p) (channelOf (w .lane) c)
+    (cellAt w (slot c (channelOf (w .lane) c) 0)) (endedAt (w .lane) (receiverOf (w .lane .network) c))
 
-abbrev formerPick : ℕ → Instruction → ℕ → World → Made
-formerPick p i c w = made (called (answerTo (formerStep p i c w .outcome) c) (putBack p c (channelOf (w .lane) c) (formerStep p i c w) w))
+abbrev formerPick : ℕ → Instruction → ℕ → World → Called
+formerPick p i c w = called (answerTo (formerStep p i c w .outcome) c) (putBack p c (channelOf (w .lane) c) (formerStep p i c w) w)
 
 abbrev former : Call → World → Made
-former (pick p) w = formerPick p (instructionFor p (w .lane)) (channelIn (instructionFor p (w .lane))) w
+former (pick p) w = made (refuse (noProcess p w) 8 w (formerPick p (instructionFor p (w .lane)) (channelIn (instructionFor p (w .lane))) w))
 former (feed c v) w = bare (feed c v) w
 former (close c) w = bare (close c) w
 former (take c) w = bare (take c) w
