@@ -1,10 +1,9 @@
 -- A bench answers a length that any listing buffer has room for.
 -- Assumes nothing.
-use mathlib.Core.Path.{_≡_, refl, sym, ap, _∙_}
+use mathlib.Core.Path.{_≡_, refl, ap}
 use mathlib.Core.Bool.{Bool, true, false, cond}
 use mathlib.Core.List.{List}
 use Prim.Native.Nat.{ℕ, _≤_}
-use native.Mathlib.Omega.{arith}
 use lib.Dec.{ltb}
 use lib.ListN.{length}
 use Rattle.network.specs.declared.Network.{Network}
@@ -14,7 +13,7 @@ use Rattle.lane_file.proofs.RoundTrip.{written-read}
 use Rattle.listing.specs.Text.{text}
 use Rattle.bench_rules.specs.Playing.{linesOf}
 use Rattle.bench_rules.proofs.Fits.{listing-fits}
-use Rattle.bench.specs.Bench.{Told, listed, refused, Result, result, inputWrong, picksWrong, listing, played, onFile, benchOf}
+use Rattle.bench.specs.Bench.{Told, listed, refused, result, inputWrong, picksWrong, listing, played, onFile, benchOf}
 use Rattle.bench.proofs.Kept.{few-picks}
 
 -- a length of at most 57,784, or a refusal

@@ -3,11 +3,10 @@ mod playing;
 mod tests;
 
 use base::Refusal;
-use base::Verdict;
 use lane_file::Answer;
 use network::Network;
 ghost use mathlib.Core.Path.{_≡_};
-ghost use mathlib.Core.Bool.{true, false};
+ghost use mathlib.Core.Bool.{true};
 ghost use Prim.Native.Nat.{_≤_};
 ghost use lib.ListN.{length};
 ghost use Rattle.network.specs.Rules.{passes};
@@ -27,9 +26,9 @@ fn play(net: Network, input: &[u8], picks: &[u8], listing: &mut [u8]) -> BenchAn
     if tests::input_wrong(net, input, picks) {
         return BenchAnswer::Refused(Refusal::Input);
     }
-    let Verdict::Good = schedule::unnamed(picks, net.processes) else {
+    if !schedule::all_named(picks, net.processes as u8) {
         return BenchAnswer::Refused(Refusal::Absent);
-    };
+    }
     BenchAnswer::Listed(playing::list(net, input, picks, listing))
 }
 

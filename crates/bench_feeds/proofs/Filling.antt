@@ -9,16 +9,12 @@ use native.Mathlib.Omega.{arith}
 use borrow.Author.Tests.{ltb-true, eqb-true, eq-eqb, ne-eqb}
 use lib.Dec.{eqb, ltb}
 use lib.IntN.{ℤ}
-use lib.ListN.{length}
 use Rattle.base.proofs.Conjunction.{both-true}
 use Rattle.process.specs.Execute.{full}
 use Rattle.lane.specs.State.{World, channelOf}
 use Rattle.lane.specs.Calls.{Told, accepted, refused, Called, called, isClosed, receiverEnded, feedOf, closeOf}
-use Rattle.lane.specs.Calls as calls
 use Rattle.lane.proofs.CallCases.{feed-cases, close-cases}
 use Rattle.lane.proofs.CallLaws.{Preserves, kept-then, feed-kept, feed-refused}
-use Rattle.call_parts.specs.Tests.{Opened, offeredTo}
-use Rattle.lane_calls.proofs.TestLaws.{says-opened, feed-opened, close-opened}
 use Rattle.bench_rules.specs.Input.{records, channelAt, valueAt, leftFrom}
 use Rattle.bench_rules.specs.Feeding.{isAccepted, fed, feeding}
 use Rattle.bench_feeds.specs.Idle.{idleAt}
@@ -26,15 +22,15 @@ use Rattle.bench_feeds.specs.Idle.{idleAt}
 -- ---- what is left at record i
 module _ (input : List ℕ) (c i : ℕ) where
   -- no record any more
-  pub left-none : records input ≤ i → leftFrom input c i ≡ []
+  left-none : records input ≤ i → leftFrom input c i ≡ []
   left-none h = let n : records input - i ≡ 0 = omega arith in rw n
 
   -- a record of another channel
-  pub left-other : i < records input → (channelAt input i ≡ c → ⊥) → leftFrom input c i ≡ leftFrom input c (i + 1)
+  left-other : i < records input → (channelAt input i ≡ c → ⊥) → leftFrom input c i ≡ leftFrom input c (i + 1)
   left-other h n = let l : records input - i ≡ suc (records input - (i + 1)) = omega arith in rw (l, ne-eqb (channelAt input i) c n, add-one i)
 
   -- a record of this one
-  pub left-this : i < records input → channelAt input i ≡ c → leftFrom input c i ≡ valueAt input i ∷ leftFrom input c (i + 1)
+  left-this : i < records input → channelAt input i ≡ c → leftFrom input c i ≡ valueAt input i ∷ leftFrom input c (i + 1)
   left-this h e = let l : records input - i ≡ suc (records input - (i + 1)) = omega arith in rw (l, eq-eqb (channelAt input i) c e, add-one i)
 
 -- ---- what feeding a value comes to, by what the feed answered
@@ -46,23 +42,10 @@ feeding-by c v vs w r e = ap (λ (s : Called). cond (isAccepted (s .answer)) (fe
 feed-left : (c : ℕ) (v : ℤ) (w w′ : World) (k : ℕ) → called (refused k) w′ ≡ feedOf c v w → w ≡ w′
 feed-left c v w w′ k e = sym (ap (λ (r : Called). r .world) e ∙ feed-refused w c v k (sym (ap (λ (r : Called). r .answer) e)))
 
--- ---- a call at a channel that is there, of a lane that is sound, with its cells
-module _ (c : ℕ) (w : World) (o : Opened (length (w .cells)) (w .lane) c (w .lane .network .channels)) where
-  pub fed-there : (v : ℤ) → feedOf c v w ≡ offeredTo c w (calls.fed c v w)
-  fed-there v = rw (feed-opened c w v, says-opened o)
-
-  pub closed-there : closeOf c w ≡ offeredTo c w (calls.closed c w)
-  closed-there = rw (close-opened c w, sym (o .long), says-opened o)
-
 -- ---- a loop over the records: what is left leads to the same end as all did at the start, and the lane is still fit for calls
 pub record Filling (input : List ℕ) (c next : ℕ) (w₀ : World) (i : ℕ) (w : World) : Type 0 where
   pub rest : feeding c (leftFrom input c next) w₀ ≡ feeding c (leftFrom input c i) w
   pub kept : Preserves w₀ w
-
-pub still-opened : {c : ℕ} {w w′ : World} → Preserves w w′ → Opened (length (w .cells)) (w .lane) c (w .lane .network .channels)
-    → Opened (length (w′ .cells)) (w′ .lane) c (w′ .lane .network .channels)
-still-opened {c} {w} {w′} k o =
-    record { long = k .cells ∙ o .long; sound = k .sound (o .sound); there = rw (k .network) (o .there) }
 
 module _ {input : List ℕ} {c next i : ℕ} {w₀ w : World} (s : Filling input c next w₀ i w) where
   -- a record of another channel is passed

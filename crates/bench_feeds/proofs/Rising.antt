@@ -13,12 +13,11 @@ use lib.ListN.{length, getD, set, length-set}
 use lib.Seq.{getD-set-same, getD-set-other, set-getD}
 use Rattle.base.proofs.Lists.{length-values, table-at, table-is}
 use Rattle.network.specs.Rules.{senderOf, outside}
-use Rattle.network.proofs.Passed.{passed}
 use Rattle.lane.specs.State.{World, channelOf}
 use Rattle.lane.specs.Sound.{soundOf}
 use Rattle.lane.specs.Calls.{receiverEnded}
-use Rattle.lane.proofs.SoundLaws.{sound-says}
 use Rattle.lane.proofs.CallLaws.{Preserves, unchanged, kept-then}
+use Rattle.lent_calls.proofs.There.{low}
 use Rattle.bench_rules.specs.Input.{leftFrom, leftAt}
 use Rattle.bench_rules.specs.Feeding.{Fed, fed, feeding, Inputs, inputs, put, feedsAt, feedsFrom, feeds}
 use Rattle.bench_rules.proofs.Fed.{feeding-kept}
@@ -87,8 +86,8 @@ module _ {input next : List ℕ} {w₀ : World} {c : ℕ} {at : List ℕ} {w : W
   at-last h = let n : w₀ .lane .network .channels - c ≡ 0 = omega arith in sym (s .rest ∙ rw n)
 
   module _ (sound : soundOf (w₀ .lane) ≡ true) (h : c < w₀ .lane .network .channels) where
-    pub below : c < 32
-    below = omega (arith, passed (w₀ .lane .network) (sound-says (w₀ .lane) sound .passed) .channels-high)
+    below : c < 32
+    below = low (w₀ .lane) sound h
 
     -- the next channel has come to this
     onward : (at′ : List ℕ) (w′ : World) → length at′ ≡ 32 → Preserves w w′ → feedsAt c (inputs (leftAt input at) w) ≡ inputs (leftAt input at′) w′ → Rising input next w₀ (c + 1) at′ w′

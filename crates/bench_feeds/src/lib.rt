@@ -1,23 +1,16 @@
 // The inputs of a bench: fed until they are full or spent, the spent ones closed.
-use bench_rules::FedAll;
 use lane::FeedAnswer;
-use lane::Lane;
-use process::Channel;
 ghost use mathlib.Core.Path.{_≡_};
-ghost use mathlib.Core.Bool.{true};
-ghost use Prim.Native.Nat.{_<_};
-ghost use lib.ListN.{length};
-ghost use Rattle.lane.specs.State.{world};
-ghost use Rattle.lane.specs.Sound.{soundOf};
-ghost use Rattle.bench_rules.specs.Input.{records, channelAt, signed32, valueAt, leftFrom, leftAt};
-ghost use Rattle.bench_rules.specs.Feeding.{fed, feeding, inputs, feeds};
-ghost use Rattle.bench_feeds.specs.Idle.{idleAt};
-
-// One channel's input after it was fed: the lane, and the record to look at next.
-struct Filled {
-    lane: Lane,
-    next: usize,
-}
+ghost use mathlib.Core.Bool.{false};
+ghost use Prim.Native.Nat.{ℕ, _<_};
+ghost use lib.ListN.{getD};
+ghost use Rattle.lane.specs.State.{isEnded};
+ghost use Rattle.outer_ends.specs.Outer.{Outer};
+ghost use Rattle.lane_parts.specs.Parts.{conditionOf, channel};
+ghost use Rattle.lent_calls.specs.OneChannel.{Feedable};
+ghost use Rattle.bench_rules.specs.Input.{records, channelAt, signed32, valueAt};
+ghost use Rattle.bench_feeds.specs.Idle.{Idling, idleAt};
+ghost use Rattle.bench_feeds.specs.Feeds.{inlets, Filled, Feeding, Fed};
 
 // The channel of record i. Public for the bench, which looks at the records before it plays.
 pub fn channel_at(input: &[u8], i: usize) -> usize
@@ -56,44 +49,58 @@ fn value_at(input: &[u8], i: usize) -> i32
     signed(65536 * high + low)
 }
 
-// Channel c, which comes from outside: feeds from record `next` on until one is refused; when all is fed, a closing.
-fn fill(lane: Lane, cells: &mut [i32], input: &[u8], c: usize, next: usize) -> Filled
-    requires { ⌜ (soundOf lane ≡ true) × (length (now cells) ≡ 8192) × (c < lane .network .channels) ⌝ }
-    ensures { λ r. ⌜ feeding c (leftFrom (now (input .entry)) c next) (world lane (now (cells .entry))) ≡ fed (leftFrom (now (input .entry)) c (r .next)) (world (r .lane) (now (cells .exit))) ⌝ }
+// Channel c, which comes from outside: feeds from record `from` on until one is refused; when all is fed, a closing. The next record.
+fn fill_in(
+    c: usize,
+    from: usize,
+    input: &[u8],
+    gone: bool,
+    capacity: &[u16; 32],
+    oldest: &[u16; 32],
+    held: &mut [u16; 32],
+    closed: &mut [bool; 32],
+    cells: &mut [i32],
+) -> usize
+    requires { ⌜ Feedable c (now capacity) (now oldest) (now held) (now closed) (now cells) ⌝ }
+    ensures { λ r. ⌜ Filled (now (input .entry)) c from gone (inlets (now (capacity .entry)) (now (oldest .entry)) (now (held .entry)) (now (closed .entry)) (now (cells .entry))) r (inlets (now (capacity .entry)) (now (oldest .entry)) (now (held .exit)) (now (closed .exit)) (now (cells .exit))) ⌝ }
 {
     let records = input.len() / 5;
-    let mut l = lane;
-    let mut i = next;
+    let mut i = from;
     while i < records {
         if channel_at(input, i) == c {
-            let offered = lane_calls::feed_there(l, cells, c, value_at(input, i));
-            l = offered.lane;
-            let answer = offered.answer;
+            let v = value_at(input, i);
+            let answer = lent_calls::feed_in(c, v, gone, capacity, oldest, held, closed, cells);
             if let FeedAnswer::Refused(_) = answer {
-                return Filled { lane: l, next: i };
+                return i;
             }
         }
         i += 1;
     }
-    let shut = lane_calls::close_there(l, c);
-    let closed = shut.lane;
-    Filled {
-        lane: closed,
-        next: i,
-    }
+    lent_calls::close_in(c, capacity, oldest, held, closed);
+    i
 }
 
 // Nothing can be fed or closed at channel c now: it is closed, or full with a value left, which is that of the next record.
-fn idle(h: Channel, gone: bool, input: &[u8], c: usize, next: usize) -> bool
-    ensures { λ r. ⌜ r ≡ idleAt h gone (now (input .entry)) c next ⌝ }
+fn idle(
+    c: usize,
+    next: usize,
+    input: &[u8],
+    receiver: &[u8; 32],
+    conditions: &[u8; 16],
+    capacity: &[u16; 32],
+    held: &[u16; 32],
+    closed: &[bool; 32],
+) -> bool
+    requires { ⌜ Idling c (now receiver) (now conditions) (now capacity) (now held) (now closed) ⌝ }
+    ensures { λ r. ⌜ ((oldest : ℕ) → r ≡ idleAt (channel (getD (now (capacity .entry)) c 0) oldest (getD (now (held .entry)) c 0) (getD (now (closed .entry)) c false)) (isEnded (conditionOf (getD (now (conditions .entry)) (getD (now (receiver .entry)) c 0) 0))) (now (input .entry)) c next) ⌝ }
 {
-    if h.closed {
+    if closed[c] {
         return true;
     }
-    if gone {
+    if lane_parts::ended_at(receiver[c], conditions) {
         return false;
     }
-    if h.held != h.capacity {
+    if held[c] != capacity[c] {
         return false;
     }
     if next < input.len() / 5 {
@@ -102,29 +109,34 @@ fn idle(h: Channel, gone: bool, input: &[u8], c: usize, next: usize) -> bool
     false
 }
 
-// Each input in turn. Public for the bench, which has shown that the lane is sound and the cells are 8,192.
-pub fn feed_all(lane: Lane, cells: &mut [i32], input: &[u8], next: [usize; 32]) -> FedAll
-    requires { ⌜ (soundOf lane ≡ true) × (length (now cells) ≡ 8192) ⌝ }
-    ensures { λ r. ⌜ inputs (leftAt (now (input .entry)) (r .next)) (world (r .lane) (now (cells .exit))) ≡ feeds (inputs (leftAt (now (input .entry)) next) (world lane (now (cells .entry)))) ⌝ }
+// Each input in turn: `inputs` is the first channel from outside, `after` has for each channel the next one, so that those inside are passed over. Public for the bench, which has shown that the lane is sound and the cells are 8,192.
+pub fn feed_all(
+    inputs: usize,
+    after: &[u8; 32],
+    sender: &[u8; 32],
+    receiver: &[u8; 32],
+    channels: usize,
+    conditions: &[u8; 16],
+    input: &[u8],
+    next: &mut [usize; 32],
+    capacity: &[u16; 32],
+    oldest: &[u16; 32],
+    held: &mut [u16; 32],
+    closed: &mut [bool; 32],
+    cells: &mut [i32],
+)
+    requires { ⌜ Outer (now sender) channels inputs (now after) × Feeding (now sender) (now receiver) channels (now conditions) (now next) (inlets (now capacity) (now oldest) (now held) (now closed) (now cells)) ⌝ }
+    ensures { λ u. ⌜ Fed (now (sender .entry)) (now (receiver .entry)) channels (now (conditions .entry)) (now (input .entry)) (now (next .entry)) (inlets (now (capacity .entry)) (now (oldest .entry)) (now (held .entry)) (now (closed .entry)) (now (cells .entry))) (now (next .exit)) (inlets (now (capacity .entry)) (now (oldest .entry)) (now (held .exit)) (now (closed .exit)) (now (cells .exit))) ⌝ }
 {
-    let sender = lane.network.sender;
-    let receiver = lane.network.receiver;
-    let channels = lane.network.channels;
-    let mut l = lane;
-    let mut at = next;
-    let mut c: usize = 0;
+    let mut c = inputs;
     while c < channels {
         if sender[c] == 255 {
-            let h = l.channels[c];
-            let e = base::wide(receiver[c]);
-            let gone = lane_sound::ended_if(e, l.processes[e % 16]);
-            if !idle(h, gone, input, c, at[c]) {
-                let filled = fill(l, cells, input, c, at[c]);
-                l = filled.lane;
-                at[c] = filled.next;
+            let from = next[c];
+            if !idle(c, from, input, receiver, conditions, capacity, held, closed) {
+                let gone = lane_parts::ended_at(receiver[c], conditions);
+                next[c] = fill_in(c, from, input, gone, capacity, oldest, held, closed, cells);
             }
         }
-        c += 1;
+        c = base::wide(after[c]);
     }
-    FedAll { lane: l, next: at }
 }

@@ -1,20 +1,18 @@
-// The outputs of a bench: emptied into lines of its listing.
-use bench_rules::Emptied;
-use lane::Lane;
+// The outputs of a bench: emptied into lines of its listing, on the lent arrays of a lane's channels.
 use lane::TakeAnswer;
-use process::Channel;
+use lent_calls::take_in;
 ghost use mathlib.Core.Path.{_≡_};
-ghost use mathlib.Core.Bool.{true, cond, not, _&&_, _||_};
-ghost use Prim.Native.Nat.{suc, _+_, _≤_, _<_};
+ghost use mathlib.Core.Bool.{true, false, cond, not, _&&_, _||_};
+ghost use Prim.Native.Nat.{_+_, _≤_, _<_};
 ghost use lib.Dec.{eqb, ltb};
-ghost use lib.ListN.{length, set};
+ghost use lib.ListN.{length, getD, set};
 ghost use Rattle.network.specs.Rules.{outside};
-ghost use Rattle.lane.specs.State.{world, channelOf};
-ghost use Rattle.lane.specs.Sound.{soundOf};
 ghost use Rattle.lane.specs.Calls.{takeTold};
+ghost use Rattle.outer_ends.specs.Outer.{Outer};
 ghost use Rattle.listing.specs.Text.{text};
 ghost use Rattle.listing.specs.Written.{written};
-ghost use Rattle.bench_rules.specs.Emptying.{lineFor, isEnd, outputs, takesAt, empties};
+ghost use Rattle.bench_rules.specs.Emptying.{lineFor, isEnd};
+ghost use Rattle.bench_takes.specs.Takes.{outlets, Drainable, Drained, Taking, Took};
 
 // The answer to a take is the end.
 fn is_end(answer: TakeAnswer) -> bool
@@ -28,15 +26,13 @@ fn is_end(answer: TakeAnswer) -> bool
 }
 
 // The ends given after a take at channel c: one more where it answered the end.
-fn mark(given: [bool; 32], c: usize, over: bool) -> [bool; 32]
-    requires { ⌜ c < 32 ⌝ }
-    ensures { λ r. ⌜ r ≡ cond over (set given c true) given ⌝ }
+fn mark(given: &mut [bool; 32], c: usize, over: bool)
+    requires { ⌜ (c < 32) × (length (now given) ≡ 32) ⌝ }
+    ensures { λ u. ⌜ now (given .exit) ≡ cond over (set (now (given .entry)) c true) (now (given .entry)) ⌝ }
 {
-    let mut marked = given;
     if over {
-        marked[c] = true;
+        given[c] = true;
     }
-    marked
 }
 
 // The line for what a take at channel c answered.
@@ -51,84 +47,92 @@ fn print(answer: TakeAnswer, c: usize, listing: &mut [u8], at: usize) -> usize
     }
 }
 
-// Channel c, which goes outside: all that it holds, and one take more, which gives the end or is refused.
+// Channel c, which goes outside: all that it holds, and one take more, which gives the end or is refused. Answers the place after the lines.
 fn drain(
-    lane: Lane,
-    cells: &[i32],
     c: usize,
-    given: [bool; 32],
+    given: &mut [bool; 32],
+    capacity: &[u16; 32],
+    oldest: &mut [u16; 32],
+    held: &mut [u16; 32],
+    closed: &[bool; 32],
+    cells: &[i32],
     listing: &mut [u8],
     at: usize,
-) -> Emptied
-    requires { ⌜ (soundOf lane ≡ true) × (length (now cells) ≡ 8192) × (c < lane .network .channels) × (at + length (text (takesAt c (suc (channelOf lane c .held)) (outputs (world lane (now cells)) given) .lines)) ≤ length (now listing)) ⌝ }
-    ensures { λ r. ⌜ (outputs (world (r .lane) (now (cells .entry))) (r .given) ≡ takesAt c (suc (channelOf lane c .held)) (outputs (world lane (now (cells .entry))) given) .after) × (r .at ≡ at + length (text (takesAt c (suc (channelOf lane c .held)) (outputs (world lane (now (cells .entry))) given) .lines))) × (now (listing .exit) ≡ written at (text (takesAt c (suc (channelOf lane c .held)) (outputs (world lane (now (cells .entry))) given) .lines)) (now (listing .entry))) ⌝ }
+) -> usize
+    requires { ⌜ Drainable c (outlets (now capacity) (now oldest) (now held) (now closed) (now given) (now cells) (now listing) at) ⌝ }
+    ensures { λ r. ⌜ Drained c (outlets (now (capacity .entry)) (now (oldest .entry)) (now (held .entry)) (now (closed .entry)) (now (given .entry)) (now (cells .entry)) (now (listing .entry)) at) (outlets (now (capacity .entry)) (now (oldest .exit)) (now (held .exit)) (now (closed .entry)) (now (given .exit)) (now (cells .entry)) (now (listing .exit)) r) ⌝ }
 {
-    let first = lane.channels[c];
-    let mut l = lane;
-    let mut ended = given;
     let mut place = at;
-    let mut left = first.held + 1;
+    let mut left = held[c] + 1;
     while left > 0 {
-        let taken = lane_calls::take_there(l, cells, c);
-        l = taken.lane;
-        let answer = taken.answer;
+        let answer = take_in(c, capacity, oldest, held, closed, cells);
         place = print(answer, c, listing, place);
-        let marked = mark(ended, c, is_end(answer));
-        ended = marked;
+        mark(given, c, is_end(answer));
         left -= 1;
     }
-    Emptied {
-        lane: l,
-        given: ended,
-        at: place,
-    }
+    place
 }
 
-// A channel has something to give: it goes outside, its end was not given, and it holds a message or is closed.
-fn gives(receiver: u8, over: bool, h: Channel) -> bool
-    ensures { λ r. ⌜ r ≡ (eqb receiver outside && not over && (ltb 0 (h .held) || h .closed)) ⌝ }
+// Channel c has something to give: it goes outside, its end was not given, and it holds a message or is closed.
+fn gives(
+    c: usize,
+    receiver: &[u8; 32],
+    given: &[bool; 32],
+    held: &[u16; 32],
+    closed: &[bool; 32],
+) -> bool
+    requires { ⌜ (c < 32) × (length (now receiver) ≡ 32) × (length (now given) ≡ 32) × (length (now held) ≡ 32) × (length (now closed) ≡ 32) ⌝ }
+    ensures { λ r. ⌜ r ≡ (eqb (getD (now (receiver .entry)) c 0) outside && not (getD (now (given .entry)) c false) && (ltb 0 (getD (now (held .entry)) c 0) || getD (now (closed .entry)) c false)) ⌝ }
 {
-    if receiver != 255 {
+    if receiver[c] != 255 {
         return false;
     }
-    if over {
+    if given[c] {
         return false;
     }
-    if h.held > 0 {
+    if held[c] > 0 {
         return true;
     }
-    h.closed
+    closed[c]
 }
 
-// Each output in turn; one that is open and empty has nothing to give. Public for the bench, which has shown what it requires.
+// Each output in turn: `outputs` is the first channel to the outside, `after` has for each channel the next one. One that is open and empty has nothing
+// to give. Answers the place after the lines. Public for the bench, which has shown what it
+// requires.
 pub fn take_all(
-    lane: Lane,
+    outputs: usize,
+    after: &[u8; 32],
+    receiver: &[u8; 32],
+    channels: usize,
+    given: &mut [bool; 32],
+    capacity: &[u16; 32],
+    oldest: &mut [u16; 32],
+    held: &mut [u16; 32],
+    closed: &[bool; 32],
     cells: &[i32],
-    given: [bool; 32],
     listing: &mut [u8],
     at: usize,
-) -> Emptied
-    requires { ⌜ (soundOf lane ≡ true) × (length (now cells) ≡ 8192) × (at + length (text (empties (outputs (world lane (now cells)) given) .lines)) ≤ length (now listing)) ⌝ }
-    ensures { λ r. ⌜ (outputs (world (r .lane) (now (cells .entry))) (r .given) ≡ empties (outputs (world lane (now (cells .entry))) given) .after) × (r .at ≡ at + length (text (empties (outputs (world lane (now (cells .entry))) given) .lines))) × (now (listing .exit) ≡ written at (text (empties (outputs (world lane (now (cells .entry))) given) .lines)) (now (listing .entry))) ⌝ }
+) -> usize
+    requires { ⌜ Outer (now receiver) channels outputs (now after) × Taking (now receiver) channels (outlets (now capacity) (now oldest) (now held) (now closed) (now given) (now cells) (now listing) at) ⌝ }
+    ensures { λ r. ⌜ Took (now (receiver .entry)) channels (outlets (now (capacity .entry)) (now (oldest .entry)) (now (held .entry)) (now (closed .entry)) (now (given .entry)) (now (cells .entry)) (now (listing .entry)) at) (outlets (now (capacity .entry)) (now (oldest .exit)) (now (held .exit)) (now (closed .entry)) (now (given .exit)) (now (cells .entry)) (now (listing .exit)) r) ⌝ }
 {
-    let receiver = lane.network.receiver;
-    let channels = lane.network.channels;
-    let mut l = lane;
-    let mut ended = given;
     let mut place = at;
-    let mut c: usize = 0;
+    let mut c = outputs;
     while c < channels {
-        if gives(receiver[c], ended[c], l.channels[c]) {
-            let emptied = drain(l, cells, c, ended, listing, place);
-            l = emptied.lane;
-            ended = emptied.given;
-            place = emptied.at;
+        if gives(c, receiver, given, held, closed) {
+            place = drain(
+                c,
+                given,
+                capacity,
+                oldest,
+                held,
+                closed,
+                cells,
+                listing,
+                place,
+            );
         }
-        c += 1;
+        c = base::wide(after[c]);
     }
-    Emptied {
-        lane: l,
-        given: ended,
-        at: place,
-    }
+    place
 }

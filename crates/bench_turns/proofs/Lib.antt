@@ -1,2 +1,5 @@
-pub mod Kept
+pub mod Grown
 pub mod Stages
+pub mod Bytes
+pub mod One
+pub mod Processes

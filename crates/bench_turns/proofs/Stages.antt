@@ -1,27 +1,23 @@
--- The lines of a bench in stages: each stage writes where the last one ended, and all of them together are the rule's lines: of a pick byte, and of the processes.
+-- The lines of a bench in stages: each stage writes where the last one ended, and all of them together are the rule's lines: of a pick byte.
 -- Assumes nothing.
 use mathlib.Core.Path.{_≡_, refl, sym, ap, subst, _∙_}
-use mathlib.Core.List.{List, [], _∷_, append-assoc, append-nil}
+use mathlib.Core.List.{List, [], _∷_, append-assoc}
 use mathlib.Core.Bool.{Bool}
-use Prim.Native.Nat.{ℕ, suc, _+_, _-_, _≤_, _<_}
-use native.Mathlib.Nat.{sub-zero}
-use native.Mathlib.Numerals.{add-one}
-use native.Mathlib.Omega.{arith}
+use Prim.Native.Nat.{ℕ, _+_, _≤_}
 use borrow.Author.Tests.{eq-eqb, ne-eqb}
 use lib.IntN.{ℤ}
 use lib.ListN.{length, replicate}
 use Rattle.lane.specs.declared.Lane.{Lane}
-use Rattle.lane.specs.State.{World, world, standingOf}
+use Rattle.lane.specs.State.{World, world}
 use Rattle.lane.specs.Pick.{pickIn, pickNext, pickAll, unpicked}
 use Rattle.relief.specs.Relief.{Told, relieveOf}
 use Rattle.schedule.specs.Running.{relieves}
-use Rattle.listing.specs.declared.Status.{Status}
-use Rattle.listing.specs.Text.{Line, proc, text, lineText}
+use Rattle.listing.specs.Text.{Line, text}
 use Rattle.listing.specs.Written.{written}
 use Rattle.bench_rules.specs.Printed.{Printed, printed, silent, thenDo}
 use Rattle.bench_rules.specs.Feeding.{Inputs, inputs, feeds}
 use Rattle.bench_rules.specs.Emptying.{Outputs, outputs, empties}
-use Rattle.bench_rules.specs.Playing.{growLines, relievesIn, picksIn, Bench, bench, picksOn, playsOne, statusOf, procLines}
+use Rattle.bench_rules.specs.Playing.{growLines, relievesIn, picksIn, Bench, bench, picksOn, playsOne}
 use Rattle.bench_rules.proofs.Underway.{Underway, begun, room-for, more, finished}
 
 -- ---- a pick byte alone: a relief, or a pick
@@ -80,40 +76,3 @@ module _ (p : ℕ) (b : Bench) (at : ℕ) (entry : List ℕ) (room : at + length
         → o ≡ empties (outputs w (b .given)) .after → end ≡ place + length (text (empties (outputs w (b .given)) .lines)) → listing′ ≡ written place (text (empties (outputs w (b .given)) .lines)) listing
         → (bench (o .world) (i .left) (o .given) ≡ playsOne p b .after) × (end ≡ at + length (text (playsOne p b .lines))) × (listing′ ≡ written at (text (playsOne p b .lines)) entry)
     after-takes {o} e q r = finished (more after-pick (empties (outputs w (b .given))) (fromTakes (i .left)) refl e q r) (bench (o .world) (i .left) (o .given)) refl
-
--- ---- the lines of the processes
--- those of process p and of the ones after it, n in all
-abbrev pub procsFrom : ℕ → ℕ → Lane → Printed Lane
-procsFrom n p l = printed (procLines l p (n - p)) l
-
-abbrev procAt : ℕ → Lane → Printed Lane
-procAt p l = printed (proc p (statusOf l p) (standingOf l p .moves) ∷ []) l
-
-procs-next : (n p : ℕ) (l : Lane) → p < n → procsFrom n p l ≡ thenDo (procAt p l) (procsFrom n (p + 1))
-procs-next n p l h =
-    let d : n - p ≡ suc (n - (p + 1)) = omega arith in
-    rw (d, add-one p)
-
-module _ {n p at : ℕ} {entry : List ℕ} {l : Lane} {place : ℕ} {listing : List ℕ} {status : Status}
-    (u : Underway (procsFrom n 0 l) at entry (procsFrom n p) l place listing) (h : p < n) (e : status ≡ statusOf l p) where
-  line-is : lineText (proc p status (standingOf l p .moves)) ≡ text (procAt p l .lines)
-  line-is = rw (e, append-nil)
-
-  pub room-for-process : place + length (lineText (proc p status (standingOf l p .moves))) ≤ length listing
-  room-for-process = rw line-is (room-for u (procAt p l) (procsFrom n (p + 1)) (procs-next n p l h))
-
-  pub after-process : {place′ : ℕ} {listing′ : List ℕ}
-      → (place′ ≡ place + length (lineText (proc p status (standingOf l p .moves)))) × (listing′ ≡ written place (lineText (proc p status (standingOf l p .moves))) listing)
-      → Underway (procsFrom n 0 l) at entry (procsFrom n (p + 1)) l place′ listing′
-  after-process q =
-      more u (procAt p l) (procsFrom n (p + 1)) (procs-next n p l h) refl
-      (q .0 ∙ ap (λ (t : List ℕ). place + length t) line-is)
-      (q .1 ∙ ap (λ (t : List ℕ). written place t listing) line-is)
-
--- no process left
-pub no-process-left : {n p at : ℕ} {entry : List ℕ} {l : Lane} {place : ℕ} {listing : List ℕ} → Underway (procsFrom n 0 l) at entry (procsFrom n p) l place listing → n ≤ p
-    → (place ≡ at + length (text (procLines l 0 n))) × (listing ≡ written at (text (procLines l 0 n)) entry)
-no-process-left {n} {p} {at} {entry} {l} u h =
-    let d : n - p ≡ 0 = omega arith in
-    let f = finished u l (ap (λ (k : ℕ). printed (procLines l p k) l) d) in
-    (rw sub-zero at (f .1), rw sub-zero at (f .2))

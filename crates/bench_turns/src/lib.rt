@@ -1,125 +1,236 @@
-// A turn of a bench, a pick byte with what comes before and after it, and at last the lines of the processes, each written as it comes. Public for the bench,
-// which has shown that the lane is sound and that there is room.
-use lane::Lane;
+// A turn of a bench, a pick byte with what comes before and after it, and at last the lines of the processes, each written as it comes. The lane is lent in
+// arrays; nothing of it is copied. Public for the bench, which has shown that the lane is sound and that there is room.
 use listing::Status;
-use process::Condition;
 use relief::ReliefAnswer;
 use relief::Waiting;
 ghost use mathlib.Core.Path.{_≡_};
 ghost use mathlib.Core.Bool.{true};
 ghost use Prim.Native.Nat.{ℕ, _+_, _≤_, _<_};
-ghost use lib.ListN.{length};
-ghost use Rattle.lane.specs.State.{world, channelOf};
-ghost use Rattle.lane.specs.Sound.{soundOf};
+ghost use lib.ListN.{length, getD};
+ghost use Rattle.lane_parts.specs.Parts.{conditionOf, parts, fixed};
 ghost use Rattle.relief.specs.Parts.{waitAs};
 ghost use Rattle.relief.specs.Relief.{told, enlarged};
+ghost use Rattle.relief.specs.Lent.{arrays};
 ghost use Rattle.schedule.specs.Run.{names};
+ghost use Rattle.outer_ends.specs.Outer.{Outer};
 ghost use Rattle.listing.specs.Text.{text};
 ghost use Rattle.listing.specs.Written.{written};
-ghost use Rattle.bench_rules.specs.Playing.{growLines, picksIn, playsOne, statusIn, procLines};
-ghost use Rattle.bench_turns.specs.Turns.{held};
+ghost use Rattle.bench_rules.specs.Playing.{playsOne, statusIn};
+ghost use Rattle.bench_turns.specs.Turns.{turn, Ready, Did, ByteReady, ByteDid, growthOf};
+ghost use Rattle.bench_turns.specs.Processes.{Printable, PrintedAll};
 
-// A lane, and the place after the lines written.
-pub struct Placed {
-    pub lane: Lane,
-    pub at: usize,
-}
-
-// What a bench holds between two pick bytes.
-pub struct Turn {
-    pub lane: Lane,
-    pub next: [usize; 32],
-    pub given: [bool; 32],
-    pub at: usize,
-}
-
-// The line for a relief that left this lane.
-fn print_growth(answer: ReliefAnswer, lane: Lane, listing: &mut [u8], at: usize) -> usize
-    requires { ⌜ ((n c : ℕ) → told answer ≡ enlarged n c → (c < 32) × (channelOf lane c .capacity ≤ 256)) × (at + length (text (growLines (told answer) lane)) ≤ length (now listing)) ⌝ }
-    ensures { λ r. ⌜ (r ≡ at + length (text (growLines (told answer) lane))) × (now (listing .exit) ≡ written at (text (growLines (told answer) lane)) (now (listing .entry))) ⌝ }
+// The line for a relief that left these capacities.
+fn print_growth(answer: ReliefAnswer, capacity: &[u16; 32], listing: &mut [u8], at: usize) -> usize
+    requires { ⌜ ((n c : ℕ) → told answer ≡ enlarged n c → (c < 32) × (getD (now capacity) c 0 ≤ 256)) × (at + length (text (growthOf (told answer) (now capacity))) ≤ length (now listing)) ⌝ }
+    ensures { λ r. ⌜ (r ≡ at + length (text (growthOf (told answer) (now (capacity .entry))))) × (now (listing .exit) ≡ written at (text (growthOf (told answer) (now (capacity .entry)))) (now (listing .entry))) ⌝ }
 {
     match answer {
-        ReliefAnswer::Enlarged { length: _, channel } => {
-            let h = lane.channels[channel];
-            listing::write_grow(listing, at, channel, h.capacity)
-        }
+        ReliefAnswer::Enlarged { length: _, channel } => listing::write_grow(
+            listing,
+            at,
+            channel,
+            capacity[channel],
+        ),
         ReliefAnswer::Refused(_) => at,
     }
 }
 
 // A pick byte alone: a pick of a process, or a relief.
-fn pick_byte(lane: Lane, cells: &mut [i32], pick: u8, listing: &mut [u8], at: usize) -> Placed
-    requires { ⌜ (soundOf lane ≡ true) × (length (now cells) ≡ 8192) × (names pick (lane .network .processes) ≡ true) × (at + length (text (picksIn pick (world lane (now cells)) .lines)) ≤ length (now listing)) ⌝ }
-    ensures { λ r. ⌜ (world (r .lane) (now (cells .exit)) ≡ picksIn pick (world lane (now (cells .entry))) .after) × (r .at ≡ at + length (text (picksIn pick (world lane (now (cells .entry))) .lines))) × (now (listing .exit) ≡ written at (text (picksIn pick (world lane (now (cells .entry))) .lines)) (now (listing .entry))) ⌝ }
+fn pick_byte(
+    pick: u8,
+    used: usize,
+    code: &[u8; 4064],
+    first: &[u16; 16],
+    sender: &[u8; 32],
+    receiver: &[u8; 32],
+    channels: usize,
+    registers: &mut [i32; 128],
+    positions: &mut [u16; 16],
+    conditions: &mut [u8; 16],
+    moves: &mut [u64; 16],
+    capacity: &mut [u16; 32],
+    oldest: &mut [u16; 32],
+    held: &mut [u16; 32],
+    closed: &mut [bool; 32],
+    cells: &mut [i32],
+    listing: &mut [u8],
+    at: usize,
+) -> usize
+    requires { ⌜ ByteReady pick used (fixed (now code) (now first) (now sender) (now receiver) channels) (parts (now registers) (now positions) (now conditions) (now moves) (now capacity) (now oldest) (now held) (now closed)) (now cells) (now listing) at ⌝ }
+    ensures { λ r. ⌜ ByteDid pick used (fixed (now (code .entry)) (now (first .entry)) (now (sender .entry)) (now (receiver .entry)) channels) (parts (now (registers .entry)) (now (positions .entry)) (now (conditions .entry)) (now (moves .entry)) (now (capacity .entry)) (now (oldest .entry)) (now (held .entry)) (now (closed .entry))) (now (cells .entry)) (now (listing .entry)) at (parts (now (registers .exit)) (now (positions .exit)) (now (conditions .exit)) (now (moves .exit)) (now (capacity .exit)) (now (oldest .exit)) (now (held .exit)) (now (closed .exit))) (now (cells .exit)) (now (listing .exit)) r ⌝ }
 {
     if pick == 255 {
-        let relieved = schedule::relieve(lane);
-        let l = relieved.lane;
-        let answer = relieved.answer;
-        let place = print_growth(answer, l, listing, at);
-        return Placed { lane: l, at: place };
+        let answer = schedule::relieve_in(
+            used,
+            code,
+            first,
+            sender,
+            receiver,
+            positions,
+            conditions,
+            capacity,
+            oldest,
+            held,
+            closed,
+        );
+        return print_growth(answer, capacity, listing, at);
     }
-    let one = [pick];
-    let ran = lane_picks::pick_all(lane, cells, &one);
-    let l = ran.lane;
-    Placed { lane: l, at }
+    lent_picks::pick_one(
+        base::wide(pick),
+        code,
+        first,
+        sender,
+        receiver,
+        channels,
+        registers,
+        positions,
+        conditions,
+        moves,
+        capacity,
+        oldest,
+        held,
+        closed,
+        cells,
+    );
+    at
 }
 
-// A pick byte with what comes before and after it.
-pub fn play_one(before: Turn, cells: &mut [i32], input: &[u8], pick: u8, listing: &mut [u8]) -> Turn
-    requires { ⌜ (soundOf (before .lane) ≡ true) × (length (now cells) ≡ 8192) × (names pick (before .lane .network .processes) ≡ true) × (before .at + length (text (playsOne pick (held before (now input) (now cells)) .lines)) ≤ length (now listing)) ⌝ }
-    ensures { λ r. ⌜ (held r (now (input .entry)) (now (cells .exit)) ≡ playsOne pick (held before (now (input .entry)) (now (cells .entry))) .after) × (r .at ≡ before .at + length (text (playsOne pick (held before (now (input .entry)) (now (cells .entry))) .lines))) × (now (listing .exit) ≡ written (before .at) (text (playsOne pick (held before (now (input .entry)) (now (cells .entry))) .lines)) (now (listing .entry))) ⌝ }
+// A pick byte with what comes before and after it. The first input and output, and for each channel the next one, are listed by the caller.
+pub fn play_one(
+    pick: u8,
+    input: &[u8],
+    inputs: usize,
+    after_input: &[u8; 32],
+    outputs: usize,
+    after_output: &[u8; 32],
+    next: &mut [usize; 32],
+    given: &mut [bool; 32],
+    used: usize,
+    code: &[u8; 4064],
+    first: &[u16; 16],
+    sender: &[u8; 32],
+    receiver: &[u8; 32],
+    channels: usize,
+    registers: &mut [i32; 128],
+    positions: &mut [u16; 16],
+    conditions: &mut [u8; 16],
+    moves: &mut [u64; 16],
+    capacity: &mut [u16; 32],
+    oldest: &mut [u16; 32],
+    held: &mut [u16; 32],
+    closed: &mut [bool; 32],
+    cells: &mut [i32],
+    listing: &mut [u8],
+    at: usize,
+) -> usize
+    requires { ⌜ (names pick used ≡ true) × Outer (now sender) channels inputs (now «after_input») × Outer (now receiver) channels outputs (now «after_output») × Ready (playsOne pick) used (fixed (now code) (now first) (now sender) (now receiver) channels) (now input) (turn (parts (now registers) (now positions) (now conditions) (now moves) (now capacity) (now oldest) (now held) (now closed)) (now cells) (now next) (now given) (now listing) at) ⌝ }
+    ensures { λ r. ⌜ Did (playsOne pick) used (fixed (now (code .entry)) (now (first .entry)) (now (sender .entry)) (now (receiver .entry)) channels) (now (input .entry)) (turn (parts (now (registers .entry)) (now (positions .entry)) (now (conditions .entry)) (now (moves .entry)) (now (capacity .entry)) (now (oldest .entry)) (now (held .entry)) (now (closed .entry))) (now (cells .entry)) (now (next .entry)) (now (given .entry)) (now (listing .entry)) at) (turn (parts (now (registers .exit)) (now (positions .exit)) (now (conditions .exit)) (now (moves .exit)) (now (capacity .exit)) (now (oldest .exit)) (now (held .exit)) (now (closed .exit))) (now (cells .exit)) (now (next .exit)) (now (given .exit)) (now (listing .exit)) r) ⌝ }
 {
-    let lane = before.lane;
-    let records = before.next;
-    let ended = before.given;
-    let fed = bench_feeds::feed_all(lane, cells, input, records);
-    let full = fed.lane;
-    let next = fed.next;
-    let picked = pick_byte(full, cells, pick, listing, before.at);
-    let moved = picked.lane;
-    let emptied = bench_takes::take_all(moved, cells, ended, listing, picked.at);
-    let left = emptied.lane;
-    let given = emptied.given;
-    Turn {
-        lane: left,
+    bench_feeds::feed_all(
+        inputs,
+        after_input,
+        sender,
+        receiver,
+        channels,
+        conditions,
+        input,
         next,
+        capacity,
+        oldest,
+        held,
+        closed,
+        cells,
+    );
+    let place = pick_byte(
+        pick,
+        used,
+        code,
+        first,
+        sender,
+        receiver,
+        channels,
+        registers,
+        positions,
+        conditions,
+        moves,
+        capacity,
+        oldest,
+        held,
+        closed,
+        cells,
+        listing,
+        at,
+    );
+    bench_takes::take_all(
+        outputs,
+        after_output,
+        receiver,
+        channels,
         given,
-        at: emptied.at,
-    }
+        capacity,
+        oldest,
+        held,
+        closed,
+        cells,
+        listing,
+        place,
+    )
 }
 
 // How a process stands in this condition, which would wait so if picked.
-fn status(condition: Condition, waiting: Waiting) -> Status
-    ensures { λ r. ⌜ ((c : ℕ) → r ≡ statusIn condition (waitAs waiting c)) ⌝ }
+fn status(condition: u8, waiting: Waiting) -> Status
+    ensures { λ r. ⌜ ((c : ℕ) → r ≡ statusIn (conditionOf condition) (waitAs waiting c)) ⌝ }
 {
     match condition {
-        Condition::Stopped => Status::Stop,
-        Condition::Faulted => Status::Fault,
-        Condition::Live => match waiting {
+        0 => match waiting {
             Waiting::Free => Status::Run,
             Waiting::Empty => Status::Empty,
             Waiting::Full => Status::Full,
         },
+        1 => Status::Stop,
+        _ => Status::Fault,
     }
 }
 
 // The lines of the processes.
-pub fn print_processes(lane: Lane, listing: &mut [u8], at: usize) -> usize
-    requires { ⌜ (soundOf lane ≡ true) × (at + length (text (procLines lane 0 (lane .network .processes))) ≤ length (now listing)) ⌝ }
-    ensures { λ r. ⌜ (r ≡ at + length (text (procLines lane 0 (lane .network .processes)))) × (now (listing .exit) ≡ written at (text (procLines lane 0 (lane .network .processes))) (now (listing .entry))) ⌝ }
+pub fn print_processes(
+    used: usize,
+    code: &[u8; 4064],
+    first: &[u16; 16],
+    sender: &[u8; 32],
+    receiver: &[u8; 32],
+    positions: &[u16; 16],
+    conditions: &[u8; 16],
+    moves: &[u64; 16],
+    capacity: &[u16; 32],
+    oldest: &[u16; 32],
+    held: &[u16; 32],
+    closed: &[bool; 32],
+    listing: &mut [u8],
+    at: usize,
+) -> usize
+    requires { ⌜ Printable used (arrays (now code) (now first) (now sender) (now receiver) (now positions) (now conditions) (now capacity) (now oldest) (now held) (now closed)) (now moves) (now listing) at ⌝ }
+    ensures { λ r. ⌜ PrintedAll used (arrays (now (code .entry)) (now (first .entry)) (now (sender .entry)) (now (receiver .entry)) (now (positions .entry)) (now (conditions .entry)) (now (capacity .entry)) (now (oldest .entry)) (now (held .entry)) (now (closed .entry))) (now (moves .entry)) (now (listing .entry)) at r (now (listing .exit)) ⌝ }
 {
-    let net = lane.network;
-    let waits = relief::waits_of(lane);
     let mut place = at;
     let mut p: usize = 0;
-    while p < net.processes {
-        let standing = lane.processes[p];
-        let condition = standing.condition;
-        let way = waits.ways[p];
-        let waiting = way.waiting;
-        let status = status(condition, waiting);
-        place = listing::write_proc(listing, place, p, status, standing.moves);
+    while p < used {
+        let wait = relief::wait_at(
+            p,
+            code,
+            first,
+            sender,
+            receiver,
+            positions,
+            conditions,
+            capacity,
+            oldest,
+            held,
+            closed,
+        );
+        let waiting = wait.waiting;
+        let state = status(conditions[p], waiting);
+        place = listing::write_proc(listing, place, p, state, moves[p]);
         p += 1;
     }
     place

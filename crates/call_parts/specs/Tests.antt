@@ -5,7 +5,7 @@ use mathlib.Core.Bool.{Bool, true, cond, not}
 use Prim.Native.Nat.{ℕ, _<_}
 use lib.Dec.{eqb, ltb}
 use Rattle.base.specs.declared.Refusal.{Refusal}
-use Rattle.base.specs.declared.Refusal.the-variants.{Absent, Inside, Full, Closed, Buffer, Unsound}
+use Rattle.base.specs.declared.Refusal.the-variants.{Absent, Buffer, Unsound}
 use Rattle.base.specs.Refusals.{numberOf}
 use Rattle.lane.specs.declared.Lane.{Lane}
 use Rattle.lane.specs.State.{World}
@@ -27,10 +27,6 @@ refuseWith bad r next = cond bad (tested.Refused r) next
 unfoldable pub opened : ℕ → Lane → ℕ → ℕ → Tested
 opened cells l number count =
     refuseWith (not (eqb cells 8192)) Buffer (refuseWith (not (soundOf l)) Unsound (refuseWith (not (ltb number count)) Absent tested.Passed))
-
--- 9, 11, 10: the channel's sender is inside, the channel is closed, it is full
-unfoldable pub offered : Bool → Bool → Bool → Tested
-offered inside closed full = refuseWith inside Inside (refuseWith closed Closed (refuseWith full Full tested.Passed))
 
 -- what the first three have shown where they pass
 pub record Opened (cells : ℕ) (l : Lane) (number count : ℕ) : Type 0 where

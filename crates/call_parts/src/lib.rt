@@ -6,17 +6,15 @@ use lane::Lane;
 use lane::PickAnswer;
 use lane::TakeAnswer;
 use lane::Taken;
-use process::Channel;
-use process::Outcome;
 ghost use mathlib.Core.Path.{_≡_};
-ghost use mathlib.Core.Bool.{not};
 ghost use mathlib.Core.List.{List};
 ghost use Prim.Native.Nat.{_<_};
 ghost use lib.IntN.{ℤ};
-ghost use Rattle.process.specs.Execute.{full};
 ghost use Rattle.lane.specs.State.{world, count};
-ghost use Rattle.lane.specs.Calls.{called, answerTo, pickTold, takeTold, refuse, theEnd, receiverEnded, counting};
-ghost use Rattle.call_parts.specs.Tests.{refuseWith, opened, offered};
+ghost use Rattle.lane.specs.Calls.{pickTold, feedTold, takeTold, receiverEnded};
+ghost use Rattle.lent_calls.specs.OneChannel.{counts};
+ghost use Rattle.call_parts.specs.Tests.{refuseWith, opened};
+ghost use Rattle.call_parts.specs.Answers.{answerBy};
 
 // What the tests of a call say: none refuses, or the first that does.
 pub enum Tested {
@@ -46,15 +44,6 @@ pub fn opened(cells: usize, lane: Lane, number: usize, count: usize) -> Tested
     refuse(cells != 8192, Refusal::Buffer, safe)
 }
 
-// The tests of what comes to a channel from outside: its sender is inside, it is closed, it is full.
-pub fn offered(inside: bool, closed: bool, full: bool) -> Tested
-    ensures { λ t. ⌜ t ≡ offered inside closed full ⌝ }
-{
-    let room = refuse(full, Refusal::Full, Tested::Passed);
-    let open = refuse(closed, Refusal::Closed, room);
-    refuse(inside, Refusal::Inside, open)
-}
-
 // ---- parts of a lane
 // The receiver of channel c has ended.
 pub fn receiver_ended(lane: Lane, c: usize) -> bool
@@ -67,18 +56,8 @@ pub fn receiver_ended(lane: Lane, c: usize) -> bool
     lane_sound::ended_if(e, processes[e % 16])
 }
 
-// A channel has no room; one whose receiver has ended is never full.
-pub fn is_full(h: Channel, gone: bool) -> bool
-    ensures { λ r. ⌜ r ≡ full gone h ⌝ }
-{
-    if gone {
-        return false;
-    }
-    h.held == h.capacity
-}
-
 // One more accepted call.
-pub fn count(lane: Lane) -> Lane
+fn count(lane: Lane) -> Lane
     ensures { λ r. ⌜ r ≡ count lane ⌝ }
 {
     let mut l = lane;
@@ -87,18 +66,21 @@ pub fn count(lane: Lane) -> Lane
 }
 
 // ---- answers
-// What a pick answers, by what it did and its channel.
-pub fn answer_to(outcome: Outcome, c: usize) -> PickAnswer
-    ensures { λ r. ⌜ pickTold r ≡ answerTo outcome c ⌝ }
+// What a pick answers. The pick itself says only whether it moved; why it did not, the lane tells: the process had ended, or it stands at a receive
+// (11) or a send, and waits at its channel c.
+pub fn answer_to(moved: bool, ended: bool, op: u8, c: usize) -> PickAnswer
+    ensures { λ r. ⌜ pickTold r ≡ answerBy moved ended op c ⌝ }
 {
-    match outcome {
-        Outcome::Moved => PickAnswer::Moved,
-        Outcome::Sent(_) => PickAnswer::Moved,
-        Outcome::Halted => PickAnswer::Moved,
-        Outcome::WaitEmpty => PickAnswer::WaitingEmpty(c),
-        Outcome::WaitFull => PickAnswer::WaitingFull(c),
-        Outcome::Ended => PickAnswer::Ended,
+    if moved {
+        return PickAnswer::Moved;
     }
+    if ended {
+        return PickAnswer::Ended;
+    }
+    if op == 11 {
+        return PickAnswer::WaitingEmpty(c);
+    }
+    PickAnswer::WaitingFull(c)
 }
 
 // A feed or a closing that is refused.
@@ -117,16 +99,34 @@ pub fn not_taken(lane: Lane, r: Refusal) -> Taken
     Taken { lane, answer }
 }
 
-// Nothing is held: the end where the channel is closed, and that is an accepted call; else a refusal.
-pub fn take_none(lane: Lane, closed: bool) -> Taken
-    ensures { λ r. ⌜ ((cells : List ℤ) → called (takeTold (r .answer)) (world (r .lane) cells) ≡ refuse (not closed) 12 (world lane cells) (called theEnd (counting (world lane cells)))) ⌝ }
+// What a feed or a closing that was answered so leaves of a lane: an accepted one is counted.
+pub fn fed(lane: Lane, answer: FeedAnswer) -> Fed
+    ensures { λ f. ⌜ f ≡ record { lane = counts (feedTold answer) lane; answer = answer } ⌝ }
 {
-    let over = count(lane);
-    if closed {
-        return Taken {
-            lane: over,
-            answer: TakeAnswer::End,
-        };
+    let counted = count(lane);
+    match answer {
+        FeedAnswer::Accepted => Fed {
+            lane: counted,
+            answer,
+        },
+        FeedAnswer::Refused(_) => Fed { lane, answer },
     }
-    not_taken(lane, Refusal::Empty)
+}
+
+// The same of a take: a message and the end are accepted.
+pub fn taken(lane: Lane, answer: TakeAnswer) -> Taken
+    ensures { λ t. ⌜ t ≡ record { lane = counts (takeTold answer) lane; answer = answer } ⌝ }
+{
+    let counted = count(lane);
+    match answer {
+        TakeAnswer::Value(_) => Taken {
+            lane: counted,
+            answer,
+        },
+        TakeAnswer::End => Taken {
+            lane: counted,
+            answer,
+        },
+        TakeAnswer::Refused(_) => Taken { lane, answer },
+    }
 }

@@ -10,7 +10,6 @@ use lib.Dec.{eqb, ltb}
 use lib.IntN.{ℤ, pos}
 use lib.ListN.{length, set, length-set}
 use lib.Seq.{set-getD, getD-set-other}
-use Rattle.process.specs.Changes.{isHalted}
 use Rattle.network.specs.declared.Instruction.{Instruction}
 use Rattle.network.specs.declared.Network.{Network}
 use Rattle.network.specs.Rules.{countOf, senderOf, receiverOf, receives, sends}
@@ -20,7 +19,7 @@ use Rattle.process.specs.declared.Outcome.{Outcome}
 use Rattle.process.specs.declared.Outcome.the-variants.{Moved, Sent, Halted, WaitEmpty, WaitFull, Ended}
 use Rattle.process.specs.Channels.{noChannel, putOne, getOne, closeOne, slot}
 use Rattle.process.specs.Execute.{outcome}
-use Rattle.process.proofs.StepLaws.{waits, step-place, step-condition, step-still}
+use Rattle.process.proofs.StepLaws.{waits, isHalted, step-place, step-condition, step-still}
 use Rattle.process.proofs.ChannelLaws.{step-channel-by}
 use Rattle.lane.specs.declared.Lane.{Lane}
 use Rattle.lane.specs.State.{World, world, cellAt, noStanding, standingOf, isEnded, processOf, putProcess, endedAt, channelOf, putChannel, putChannels}

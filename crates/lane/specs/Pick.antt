@@ -5,7 +5,6 @@ use mathlib.Core.List.{List, [], _∷_}
 use Prim.Native.Nat.{ℕ, zero, suc, _+_, _%_}
 use lib.Dec.{eqb}
 use lib.ListN.{set}
-use lib.IntN.{ℤ}
 use Rattle.network.specs.declared.Network.{Network}
 use Rattle.network.specs.declared.Instruction.{Instruction}
 use Rattle.network.specs.Rules.{receiverOf, receives, sends}
@@ -16,7 +15,6 @@ use Rattle.process.specs.Process.{Stepped}
 use Rattle.process.specs.Channels.{slot, dropOne}
 use Rattle.process.specs.Execute.{stepOf}
 use Rattle.lane.specs.declared.Lane.{Lane}
-use Rattle.lane.specs.declared.Ran.{Ran}
 use Rattle.lane.specs.State.{World, world, cellAt, standingOf, processOf, putProcess, endedAt, channelOf, putChannel, putChannels, standsAt}
 
 -- the channel of an instruction: b, which is below 32 where the instruction names a channel at all
@@ -90,10 +88,6 @@ pickAll (p ∷ ps) g = pickAll ps (pickNext p g)
 abbrev pub unpicked : World → Progress
 unpicked w = record { world = w; moved = 0; last = Ended; channel = 0 }
 
--- what the code answers after some picks, with the cells as they are then
-abbrev pub progressOf : Ran → List ℤ → Progress
-progressOf r cells = record { world = world (r .lane) cells; moved = r .moved; last = r .last; channel = r .channel }
-
 -- ---- rounds of picks: the picks in turn, and again after a round with a move, as often as may follow; how many more might have followed. A step on the
 -- way to the driver, whose own definition (`schedule/specs/Drive`) does not cite it
 pub record Rounds : Type 0 where
@@ -111,6 +105,3 @@ abbrev pub pickRounds : ℕ → List ℕ → Progress → Rounds
 pickRounds zero ps g = roundsEnd (pickAll ps g) 0
 pickRounds (suc again) ps g =
     cond (eqb (pickAll ps g .moved) 0) (roundsEnd (pickAll ps g) (suc again)) (pickRounds again ps (recounted (pickAll ps g)))
-
-abbrev pub roundsOf : Ran → List ℤ → Rounds
-roundsOf r cells = roundsEnd (progressOf r cells) (r .left)

@@ -3,7 +3,6 @@ use base::Refusal;
 use network::Network;
 use process::Channel;
 use process::Condition;
-use process::Outcome;
 
 // A process without its registers, which lie in the lane's register file.
 pub struct Standing {
@@ -54,14 +53,4 @@ pub enum TakeAnswer {
 pub struct Taken {
     pub lane: Lane,
     pub answer: TakeAnswer,
-}
-
-// After rounds of picks: the lane, how many picks of the last round moved, what the last pick did, at which
-// channel, and how many more rounds might have followed.
-pub struct Ran {
-    pub lane: Lane,
-    pub moved: u64,
-    pub last: Outcome,
-    pub channel: usize,
-    pub left: u64,
 }

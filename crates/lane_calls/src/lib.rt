@@ -2,33 +2,35 @@
 use base::Refusal;
 use call_parts::Tested;
 use lane::Fed;
-use lane::FeedAnswer;
 use lane::Lane;
 use lane::PickAnswer;
 use lane::Picked;
-use lane::TakeAnswer;
 use lane::Taken;
 ghost use mathlib.Core.Path.{_≡_};
-ghost use mathlib.Core.Bool.{false};
 ghost use mathlib.Core.List.{List};
 ghost use Prim.Native.Nat.{_<_};
 ghost use lib.IntN.{ℤ};
 ghost use lib.ListN.{length};
-ghost use Rattle.lane.specs.State.{world, channelOf};
-ghost use Rattle.lane.specs.Calls.{called, picked, pickOf, pickTold, feedTold, takeTold, refuse, receiverInside, receiverEnded, stored, fed, feedOf, closed, closeOf, taken, takeOf};
+ghost use Rattle.lane.specs.State.{world};
+ghost use Rattle.lane.specs.Calls.{called, picked, pickOf, pickTold, feedTold, takeTold, refuse, receiverInside, fed, feedOf, closed, closeOf, taken, takeOf};
 ghost use Rattle.call_parts.specs.Tests.{Opened, offeredTo};
 
 // ---- pick
-// A pick of a process that is there, of a lane that is sound, with its cells.
+// A pick of a process that is there, of a lane that is sound, with its cells. Its condition and its instruction, read before, tell why it did not move.
 fn pick_there(lane: Lane, cells: &mut [i32], p: usize) -> Picked
     requires { ⌜ Opened (length (now cells)) lane p (lane .network .processes) ⌝ }
     ensures { λ r. ⌜ called (pickTold (r .answer)) (world (r .lane) (now (cells .exit))) ≡ picked p (world lane (now (cells .entry))) ⌝ }
 {
-    let one = [p as u8];
-    let ran = lane_picks::pick_all(lane, cells, &one);
-    let l = ran.lane;
-    let last = ran.last;
-    let answer = call_parts::answer_to(last, ran.channel);
+    let first = lane.network.first;
+    let processes = lane.processes;
+    let standing = processes[p];
+    let condition = standing.condition;
+    let at = lane_parts::place(first[p], standing.position);
+    let i = network::fetch(&lane.network.code, at);
+    let turn = lent_picks::pick(lane, cells, p);
+    let l = turn.lane;
+    let ended = lane_sound::is_ended(condition);
+    let answer = call_parts::answer_to(turn.moved, ended, i.op, lane_parts::channel_of(i));
     Picked { lane: l, answer }
 }
 
@@ -46,42 +48,27 @@ pub fn pick(lane: Lane, cells: &mut [i32], p: usize) -> Picked
 }
 
 // ---- feed and close
-// A message goes to its cell, or nowhere where the receiver has ended.
-fn store(lane: Lane, cells: &mut [i32], c: usize, v: i32, gone: bool) -> Lane
-    requires { ⌜ (c < 32) × (length (now cells) ≡ 8192) × (gone ≡ receiverEnded c (world lane (now cells))) × (gone ≡ false → channelOf lane c .held < channelOf lane c .capacity) ⌝ }
-    ensures { λ r. ⌜ world r (now (cells .exit)) ≡ stored c v (world lane (now (cells .entry))) ⌝ }
-{
-    if gone {
-        return lane;
-    }
-    let mut channels = lane.channels;
-    let h = channels[c];
-    cells[lane_picks::slot(c, h, h.held)] = v;
-    channels[c] = h.put();
-    let mut l = lane;
-    l.channels = channels;
-    l
-}
-
-// A feed at a channel that is there, of a lane that is sound, with its cells. Public for the bench, which has shown this once for many calls.
-pub fn feed_there(lane: Lane, cells: &mut [i32], c: usize, v: i32) -> Fed
+// A feed at a channel that is there, of a lane that is sound, with its cells.
+fn feed_there(lane: Lane, cells: &mut [i32], c: usize, v: i32) -> Fed
     requires { ⌜ Opened (length (now cells)) lane c (lane .network .channels) ⌝ }
     ensures { λ r. ⌜ called (feedTold (r .answer)) (world (r .lane) (now (cells .exit))) ≡ offeredTo c (world lane (now (cells .entry))) (fed c v (world lane (now (cells .entry)))) ⌝ }
 {
     let sender = lane.network.sender;
-    let channels = lane.channels;
-    let h = channels[c];
-    let gone = call_parts::receiver_ended(lane, c);
-    match call_parts::offered(sender[c] != 255, h.closed, call_parts::is_full(h, gone)) {
-        Tested::Refused(r) => call_parts::not_fed(lane, r),
-        Tested::Passed => {
-            let l = call_parts::count(store(lane, cells, c, v, gone));
-            Fed {
-                lane: l,
-                answer: FeedAnswer::Accepted,
-            }
-        }
+    if sender[c] != 255 {
+        return call_parts::not_fed(lane, Refusal::Inside);
     }
+    let gone = call_parts::receiver_ended(lane, c);
+    let mut capacity = [0u16; 32];
+    let mut oldest = [0u16; 32];
+    let mut held = [0u16; 32];
+    let mut closed = [false; 32];
+    let channels = lane.channels;
+    lane_parts::part_channels(channels, &mut capacity, &mut oldest, &mut held, &mut closed);
+    let answer = lent_calls::feed_in(c, v, gone, &capacity, &oldest, &mut held, &closed, cells);
+    let joined = lane_parts::join_channels(&capacity, &oldest, &held, &closed);
+    let mut l = lane;
+    l.channels = joined;
+    call_parts::fed(l, answer)
 }
 
 // A message from outside into channel c.
@@ -94,27 +81,26 @@ pub fn feed(lane: Lane, cells: &mut [i32], c: usize, v: i32) -> Fed
     }
 }
 
-// A closing of a channel that is there, of a lane that is sound. Public for the bench, like a feed there.
-pub fn close_there(lane: Lane, c: usize) -> Fed
+// A closing of a channel that is there, of a lane that is sound.
+fn close_there(lane: Lane, c: usize) -> Fed
     requires { ⌜ c < 32 ⌝ }
     ensures { λ r. ⌜ ((cells : List ℤ) → called (feedTold (r .answer)) (world (r .lane) cells) ≡ offeredTo c (world lane cells) (closed c (world lane cells))) ⌝ }
 {
-    let sender = lane.network.sender;
-    let mut channels = lane.channels;
-    let h = channels[c];
-    match call_parts::offered(sender[c] != 255, h.closed, false) {
-        Tested::Refused(r) => call_parts::not_fed(lane, r),
-        Tested::Passed => {
-            channels[c] = h.close();
-            let mut shut = lane;
-            shut.channels = channels;
-            let counted = call_parts::count(shut);
-            Fed {
-                lane: counted,
-                answer: FeedAnswer::Accepted,
-            }
-        }
+    let senders = lane.network.sender;
+    if senders[c] != 255 {
+        return call_parts::not_fed(lane, Refusal::Inside);
     }
+    let mut capacity = [0u16; 32];
+    let mut oldest = [0u16; 32];
+    let mut held = [0u16; 32];
+    let mut closed = [false; 32];
+    let channels = lane.channels;
+    lane_parts::part_channels(channels, &mut capacity, &mut oldest, &mut held, &mut closed);
+    let answer = lent_calls::close_in(c, &capacity, &oldest, &held, &mut closed);
+    let joined = lane_parts::join_channels(&capacity, &oldest, &held, &closed);
+    let mut l = lane;
+    l.channels = joined;
+    call_parts::fed(l, answer)
 }
 
 // Channel c closed from outside. No cells are lent, so that their number is not tested.
@@ -128,30 +114,26 @@ pub fn close(lane: Lane, c: usize) -> Fed
 }
 
 // ---- take
-// A take at a channel that is there, of a lane that is sound, with its cells. Public for the bench, like a feed there.
-pub fn take_there(lane: Lane, cells: &[i32], c: usize) -> Taken
+// A take at a channel that is there, of a lane that is sound, with its cells.
+fn take_there(lane: Lane, cells: &[i32], c: usize) -> Taken
     requires { ⌜ Opened (length (now cells)) lane c (lane .network .channels) ⌝ }
     ensures { λ r. ⌜ called (takeTold (r .answer)) (world (r .lane) (now (cells .entry))) ≡ refuse (receiverInside c (world lane (now (cells .entry)))) 9 (world lane (now (cells .entry))) (taken c (world lane (now (cells .entry)))) ⌝ }
 {
     let receiver = lane.network.receiver;
-    let mut channels = lane.channels;
-    let h = channels[c];
     if receiver[c] != 255 {
         return call_parts::not_taken(lane, Refusal::Inside);
     }
-    if h.held == 0 {
-        return call_parts::take_none(lane, h.closed);
-    }
-    let kept = h.get();
-    let v = cells[lane_picks::slot(c, h, 0)];
-    channels[c] = kept;
-    let mut left = lane;
-    left.channels = channels;
-    let l = call_parts::count(left);
-    Taken {
-        lane: l,
-        answer: TakeAnswer::Value(v),
-    }
+    let mut capacity = [0u16; 32];
+    let mut oldest = [0u16; 32];
+    let mut held = [0u16; 32];
+    let mut closed = [false; 32];
+    let channels = lane.channels;
+    lane_parts::part_channels(channels, &mut capacity, &mut oldest, &mut held, &mut closed);
+    let answer = lent_calls::take_in(c, &capacity, &mut oldest, &mut held, &closed, cells);
+    let joined = lane_parts::join_channels(&capacity, &oldest, &held, &closed);
+    let mut l = lane;
+    l.channels = joined;
+    call_parts::taken(l, answer)
 }
 
 // The oldest message of channel c, or the end, to the outside.

@@ -19,7 +19,7 @@ ghost use Rattle.network.specs.Rules.{senderOf, receiverOf};
 ghost use Rattle.lane.specs.State.{standingOf, isEnded, endedAt, channelOf};
 ghost use Rattle.lane.specs.Sound.{positionSound, channelSound, standingZero, channelZero};
 
-// A process in this condition has ended. Public for relief too.
+// A process in this condition has ended. Public for the calls too.
 pub fn is_ended(k: Condition) -> bool
     ensures { λ r. ⌜ r ≡ isEnded k ⌝ }
 {

@@ -1,6 +1,6 @@
-// Some five million picks on three fixed lanes, a ring of two, a pipeline of sixteen, an arithmetic loop: in runs, and in drives. An argument names
-// one of the two, `run` or `drive`, by its first letter, for a count of the instructions that a pick takes; without one both are made. Prints how
-// many picks moved.
+// Some five million picks on three fixed lanes, a ring of two, a pipeline of sixteen, an arithmetic loop: in runs, and in drives; and in runs a message
+// between two processes, one that sends and one that receives, in turn. An argument names one of the three, `run`, `drive` or `message`, by its first
+// letter, for a count of the instructions that a pick takes, or a message; without one all are made. Prints how many picks moved.
 use lane::Lane;
 use lane_file::Answer;
 
@@ -87,6 +87,13 @@ fn paces(drives: bool) {
     pace(b"arithmetic", &file, drives);
 }
 
+// 255 sends and a jump back in process 0, 255 receives and a jump back in process 1: a run of 4,096 picks passes on 8 times 255 messages.
+fn messages() {
+    let mut file = [0u8; 3072];
+    io::read_full(os::open_read(b"message.bin"), &mut file);
+    pace(b"message", &file, false);
+}
+
 fn main() {
     let mut word = [0u8; 8];
     os::arg(1, &mut word);
@@ -96,5 +103,8 @@ fn main() {
     }
     if what == 0 || what == 100 {
         paces(true);
+    }
+    if what == 0 || what == 109 {
+        messages();
     }
 }

@@ -1,26 +1,22 @@
--- What an instruction's function requires, from what a step does: the registers that a right instruction names are below 8.
+-- The fields of a right instruction: the registers that it names are below 8. What holds by its opcode; an opcode above 13 faults.
 -- Assumes nothing.
-use mathlib.Core.Path.{_≡_, refl, sym, ap, subst, _∙_}
+use mathlib.Core.Path.{_≡_, refl, sym, ap, subst}
 use mathlib.Core.Bool.{Bool, true, false, _&&_}
 use mathlib.Core.List.{List}
 use Prim.Native.Nat.{ℕ, zero, suc, _+_, _≤_, _<_}
 use native.Mathlib.Decide.{decLt, ℕ-discrete}
 use native.Mathlib.Omega.{arith}
 use lib.Dec.{T}
-use lib.IntN.{ℤ, pos}
-use lib.ListN.{getD, set, List·getD-eq-default}
-use lib.Seq.{set-getD}
+use lib.IntN.{ℤ}
+use lib.ListN.{List·getD-eq-default}
 use borrow.Author.Tests.{ltb-true, eqb-true}
 use Rattle.base.proofs.Conjunction.{both-true}
 use Rattle.network.specs.Code.{register, unnamed, fieldsRight}
 use Rattle.network.specs.declared.Instruction.{Instruction}
-use Rattle.process.specs.declared.Channel.{Channel}
-use Rattle.process.specs.declared.Stance.{Stance}
 use Rattle.process.specs.Process.{Process}
 use Rattle.process.specs.Intent.{halt}
 use Rattle.process.specs.Want.{faulted, wantLive}
 use Rattle.process.specs.Window.{at, eight}
-use Rattle.process.specs.Changes.{Steppable}
 
 -- the first of three fields, the second, the third
 pub first : (a : ℕ) (s t : Bool) → register a && s && t ≡ true → a < 8
@@ -112,26 +108,6 @@ register-in file base (suc (suc (suc (suc (suc zero))))) l = ap (at file) (omega
 register-in file base (suc (suc (suc (suc (suc (suc zero)))))) l = ap (at file) (omega arith)
 register-in file base (suc (suc (suc (suc (suc (suc (suc zero))))))) l = ap (at file) (omega arith)
 register-in file base (suc (suc (suc (suc (suc (suc (suc (suc r)))))))) l = absurd (omega arith)
-
--- a register's own value put into it
-pub kept : (registers : List ℤ) (a : ℕ) {v : ℤ} → v ≡ getD registers a (pos 0) → set registers a v ≡ registers
-kept registers a e = rw e (set-getD registers a (pos 0))
-
-module _ {i : Instruction} {file : List ℤ} {base : ℕ} {s : Stance} {h : Channel} (k : Steppable i file base s h) where
-  -- register a is at hand
-  pub at-hand : s .own ≡ getD (eight file base) (i .a) (pos 0)
-  at-hand = k .own ∙ sym (register-in file base (i .a) (own-low (k .count) (k .receives) (k .sends) i (k .right)))
-
-  pub two : (t : Bool) → register (i .a) && register (i .b) && t ≡ true → (base ≤ 120) × (i .b < 8) × (s .position < 256)
-  two t e = (k .low, second (register (i .a)) (i .b) t e, k .position)
-
-  pub three : register (i .a) && register (i .b) && register (i .c) ≡ true → (base ≤ 120) × (i .b < 8) × (i .c < 8) × (s .position < 256)
-  three e = (
-    k .low,
-    second (register (i .a)) (i .b) (register (i .c)) e,
-    third (register (i .a) && register (i .b)) (i .c) e,
-    k .position,
-  )
 
 pub above : {k n : ℕ} → k ≤ n → (n ≡ k → ⊥) → k < n
 above l e = omega arith

@@ -5,13 +5,12 @@ use mathlib.Core.Path.{_≡_, refl, sym, ap, subst, _∙_}
 use mathlib.Core.Bool.{Bool, true, false, cond, not, _&&_, _||_}
 use mathlib.Core.List.{List}
 use mathlib.Core.Logic.{_⊎_, inl, inr}
-use Prim.Native.Nat.{ℕ, _+_, _-_, _≤_, _<_}
+use Prim.Native.Nat.{ℕ, _+_, _≤_, _<_}
 use native.Mathlib.Omega.{arith}
 use lib.Dec.{T, eqb, lit<, lit≤}
 use lib.ListN.{length, length-set}
 use lib.IntN.{ℤ}
 use borrow.Author.Tests.{ltb-true, eqb-false}
-use Rattle.process.specs.Changes.{isHalted}
 use Rattle.base.proofs.Conjunction.{both-true}
 use Rattle.network.specs.Code.{register, unnamed, fieldsRight, mayBeLast, standsRight}
 use Rattle.network.specs.declared.Instruction.{Instruction}
@@ -36,6 +35,15 @@ waits Halted = false
 waits WaitEmpty = true
 waits WaitFull = true
 waits Ended = true
+
+-- the process ended by this step
+abbrev pub isHalted : Outcome → Bool
+isHalted Moved = false
+isHalted (Sent v) = false
+isHalted Halted = true
+isHalted WaitEmpty = false
+isHalted WaitFull = false
+isHalted Ended = false
 
 -- ---- what stays of a channel
 pub record Kept (h g : Channel) : Type 0 where

@@ -1,7 +1,7 @@
 -- An instruction on small values: the process, the record of its channel b, the oldest message there, and whether that channel's receiver has
 -- ended (`gone`). Document 01, "Instructions", 11 to 13, and "The lane in operation".
 -- Assumes nothing.
-use mathlib.Core.Bool.{Bool, true, false, cond}
+use mathlib.Core.Bool.{Bool, false, cond}
 use lib.Dec.{eqb}
 use lib.IntN.{ℤ}
 use Rattle.network.specs.declared.Instruction.{Instruction}

@@ -4,4 +4,3 @@ pub mod Intent
 pub mod Want
 pub mod Execute
 pub mod Window
-pub mod Changes

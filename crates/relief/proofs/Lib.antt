@@ -6,5 +6,7 @@ pub mod WaitLaws
 pub mod Enlarged
 pub mod Pigeonhole
 pub mod Circles
+pub mod Inside
 pub mod Rule
 pub mod Relieving
+pub mod Arrays

@@ -3,3 +3,4 @@ pub mod Rings
 pub mod Taken
 pub mod Parts
 pub mod Relief
+pub mod Lent

@@ -1,21 +1,18 @@
--- What the parts of relief hand on to one another: how a process waits, its wait as three numbers, the waits of a lane as arrays, these as
--- functions again, and what the search gives, in the terms of `Rings`. `relieve` says nothing of these.
+-- What the parts of relief hand on to one another: how a process waits, its wait in numbers, the waits of a lane in arrays as functions, and what
+-- the search gives, in the terms of `Rings`. `relieve` says nothing of these.
 -- Assumes nothing.
 use mathlib.Core.Bool.{Bool, cond, not, _&&_}
 use mathlib.Core.List.{List}
 use Prim.Native.Nat.{ℕ}
 use lib.Dec.{eqb, ltb}
 use lib.ListN.{getD, take}
-use Rattle.base.specs.Lists.{table}
 use Rattle.network.specs.Rules.{outside}
 use Rattle.process.specs.declared.Channel.{Channel}
 use Rattle.process.specs.Execute.{full}
 use Rattle.lane.specs.declared.Lane.{Lane}
 use Rattle.relief.specs.declared.Waiting.{Waiting}
 use Rattle.relief.specs.declared.Waiting.the-variants.{Free, Empty, Full}
-use Rattle.relief.specs.declared.Way.{Way}
 use Rattle.relief.specs.declared.Wait.{Wait}
-use Rattle.relief.specs.declared.Waits.{Waits}
 use Rattle.relief.specs.declared.Sought.{Sought}
 use Rattle.relief.specs.Waits as waits
 use Rattle.relief.specs.Rings.{Found, noRing, ceiling, found}
@@ -26,24 +23,20 @@ unfoldable pub waitingOf : ℕ → Bool → Channel → Bool → Waiting
 waitingOf op live h gone =
     cond (live && not (h .closed)) (cond (eqb op 11 && eqb (h .held) 0) Empty (cond (eqb op 12 && full gone h) Full Free)) Free
 
--- the same as an element of an array
-abbrev pub way : Waiting → Way
-way waiting = record { waiting = waiting }
-
 -- at channel c, in the terms of the rule
 abbrev pub waitAs : Waiting → ℕ → waits.Wait
 waitAs Free c = waits.free
 waitAs Empty c = waits.forMessage c
 waitAs Full c = waits.forRoom c
 
-abbrev pub wait : ℕ → ℕ → ℕ → Wait
-wait points full channel = record { points = points; full = full; channel = channel }
+abbrev pub wait : Waiting → ℕ → ℕ → ℕ → Wait
+wait waiting points full channel = record { waiting = waiting; points = points; full = full; channel = channel }
 
 -- the wait of a process that waits so at channel c, from sender to receiver, of a capacity
 abbrev pub waitFrom : Waiting → ℕ → ℕ → ℕ → ℕ → Wait
-waitFrom Free c sender receiver capacity = wait outside 0 0
-waitFrom Empty c sender receiver capacity = wait sender 0 c
-waitFrom Full c sender receiver capacity = wait receiver capacity c
+waitFrom Free c sender receiver capacity = wait Free outside 0 0
+waitFrom Empty c sender receiver capacity = wait Empty sender 0 c
+waitFrom Full c sender receiver capacity = wait Full receiver capacity c
 
 -- how a process waits, by the rule of a pick
 abbrev pub waitingIn : waits.Wait → Waiting
@@ -51,19 +44,9 @@ waitingIn waits.free = Free
 waitingIn (waits.forMessage c) = Empty
 waitingIn (waits.forRoom c) = Full
 
-abbrev pub wayOf : Lane → ℕ → Way
-wayOf l p = way (waitingIn (waits.waitOf l p))
-
--- the waits of a lane in four arrays, place p for process p: how it waits, where it points, the capacity of its full wait, its channel. What is no
--- process points outside; on a sound lane it waits for nothing (`no-wait` of proofs/WaitLaws.antt), so its other entries are Free, 0 and 0.
-abbrev pub waitsIn : Lane → Waits
-waitsIn l =
-    record {
-      ways = table 16 (wayOf l);
-      points = table 16 (waits.pointing l);
-      full = table 16 (waits.fullWait l);
-      channel = table 16 (waits.waitsAt l);
-    }
+-- what process p of a lane waits for, by the rule: how it waits, where it points, the capacity of its full wait, its channel
+abbrev pub waitBy : Lane → ℕ → Wait
+waitBy l p = wait (waitingIn (waits.waitOf l p)) (waits.pointing l p) (waits.fullWait l p) (waits.waitsAt l p)
 
 -- the pointings of P processes; none leads on from what is no process
 unfoldable pub pointsIn : List ℕ → ℕ → ℕ → ℕ

@@ -1,14 +1,11 @@
 // Who waits for whom: for each process of a sound lane the process that it points to, and its full wait.
 use crate::Wait;
 use crate::Waiting;
-use crate::Waits;
-use crate::Way;
-use lane::Lane;
 use process::Channel;
 ghost use mathlib.Core.Path.{_≡_};
-ghost use mathlib.Core.Bool.{true};
-ghost use Rattle.lane.specs.Sound.{soundOf};
-ghost use Rattle.relief.specs.Parts.{waitingOf, waitFrom, waitsIn};
+ghost use lib.ListN.{length};
+ghost use Rattle.relief.specs.Parts.{waitingOf, waitFrom};
+ghost use Rattle.relief.specs.Lent.{arrays, Relievable, Waitable, Looked, AllLooked};
 
 // How a process waits, live or not, that stands at this opcode, with its channel so and that channel's receiver ended or not: a receive at
 // an empty open channel, a send at a full open one.
@@ -44,16 +41,19 @@ fn wait_in(waiting: Waiting, c: u8, sender: u8, receiver: u8, capacity: u16) -> 
 {
     match waiting {
         Waiting::Free => Wait {
+            waiting: Waiting::Free,
             points: 255,
             full: 0,
             channel: 0,
         },
         Waiting::Empty => Wait {
+            waiting: Waiting::Empty,
             points: sender,
             full: 0,
             channel: c,
         },
         Waiting::Full => Wait {
+            waiting: Waiting::Full,
             points: receiver,
             full: capacity,
             channel: c,
@@ -61,44 +61,70 @@ fn wait_in(waiting: Waiting, c: u8, sender: u8, receiver: u8, capacity: u16) -> 
     }
 }
 
-// The waits of all processes, by their instructions: nothing is picked. Public for the bench; the callers have shown that the lane is sound.
-pub fn waits_of(lane: Lane) -> Waits
-    requires { ⌜ soundOf lane ≡ true ⌝ }
-    ensures { λ r. ⌜ r ≡ waitsIn lane ⌝ }
+// How process p of a sound lane waits and for what, by its instruction: nothing is picked. Public for the bench, which prints how each process
+// stands; the callers have shown that the lane is sound.
+pub fn wait_at(
+    p: usize,
+    code: &[u8; 4064],
+    first: &[u16; 16],
+    sender: &[u8; 32],
+    receiver: &[u8; 32],
+    positions: &[u16; 16],
+    conditions: &[u8; 16],
+    capacity: &[u16; 32],
+    oldest: &[u16; 32],
+    held: &[u16; 32],
+    closed: &[bool; 32],
+) -> Wait
+    requires { ⌜ Waitable p (arrays (now code) (now first) (now sender) (now receiver) (now positions) (now conditions) (now capacity) (now oldest) (now held) (now closed)) ⌝ }
+    ensures { λ r. ⌜ Looked p (arrays (now (code .entry)) (now (first .entry)) (now (sender .entry)) (now (receiver .entry)) (now (positions .entry)) (now (conditions .entry)) (now (capacity .entry)) (now (oldest .entry)) (now (held .entry)) (now (closed .entry))) r ⌝ }
 {
-    let first = lane.network.first;
-    let sender = lane.network.sender;
-    let receiver = lane.network.receiver;
-    let used = lane.network.processes;
-    let mut ways = [Way {
-        waiting: Waiting::Free,
-    }; 16];
-    let mut points = [255u8; 16];
-    let mut full = [0u16; 16];
-    let mut channel = [0u8; 16];
+    let i = network::fetch(code, lane_parts::place(first[p], positions[p]));
+    let c = lane_parts::channel_of(i);
+    let h = lane_parts::channel_at(c, capacity, oldest, held, closed);
+    let gone = lane_parts::ended_at(receiver[c], conditions);
+    let waiting = waiting_at(i.op, conditions[p] == 0, h, gone);
+    wait_in(waiting, c as u8, sender[c], receiver[c], h.capacity)
+}
+
+// The same of each process, in three arrays: where it points, its full wait, its channel.
+pub fn waits_in(
+    used: usize,
+    code: &[u8; 4064],
+    first: &[u16; 16],
+    sender: &[u8; 32],
+    receiver: &[u8; 32],
+    positions: &[u16; 16],
+    conditions: &[u8; 16],
+    capacity: &[u16; 32],
+    oldest: &[u16; 32],
+    held: &[u16; 32],
+    closed: &[bool; 32],
+    points: &mut [u8; 16],
+    full: &mut [u16; 16],
+    channel: &mut [u8; 16],
+)
+    requires { ⌜ Relievable used (arrays (now code) (now first) (now sender) (now receiver) (now positions) (now conditions) (now capacity) (now oldest) (now held) (now closed)) × (length (now points) ≡ 16) × (length (now full) ≡ 16) × (length (now channel) ≡ 16) ⌝ }
+    ensures { λ u. ⌜ AllLooked used (arrays (now (code .entry)) (now (first .entry)) (now (sender .entry)) (now (receiver .entry)) (now (positions .entry)) (now (conditions .entry)) (now (capacity .entry)) (now (oldest .entry)) (now (held .entry)) (now (closed .entry))) (now (points .exit)) (now (full .exit)) (now (channel .exit)) ⌝ }
+{
     let mut p = 0;
     while p < used {
-        let standing = lane.processes[p];
-        let condition = standing.condition;
-        let at = lane_picks::place(first[p], standing.position);
-        let i = network::fetch(&lane.network.code, at);
-        let c = lane_picks::channel_of(i);
-        let h = lane.channels[c];
-        let e = base::wide(receiver[c]);
-        let gone = lane_sound::ended_if(e, lane.processes[e % 16]);
-        let ended = lane_sound::is_ended(condition);
-        let waiting = waiting_at(i.op, !ended, h, gone);
-        let wait = wait_in(waiting, c as u8, sender[c], receiver[c], h.capacity);
-        ways[p] = Way { waiting };
+        let wait = wait_at(
+            p,
+            code,
+            first,
+            sender,
+            receiver,
+            positions,
+            conditions,
+            capacity,
+            oldest,
+            held,
+            closed,
+        );
         points[p] = wait.points;
         full[p] = wait.full;
         channel[p] = wait.channel;
         p += 1;
-    }
-    Waits {
-        ways,
-        points,
-        full,
-        channel,
     }
 }

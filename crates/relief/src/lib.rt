@@ -3,14 +3,14 @@ mod graph;
 mod search;
 
 use base::Refusal;
-pub use graph::waits_of;
+pub use graph::wait_at;
 use lane::Lane;
 ghost use mathlib.Core.Path.{_≡_};
 ghost use mathlib.Core.List.{_++_};
-ghost use Prim.Native.Nat.{_≤_, _<_};
+ghost use Prim.Native.Nat.{_≤_};
 ghost use lib.ListN.{length, take, drop};
-ghost use Rattle.lane.specs.State.{channelOf};
-ghost use Rattle.relief.specs.Relief.{told, relief, grown, relieveOf};
+ghost use Rattle.relief.specs.Relief.{told, relief, relieveOf};
+ghost use Rattle.relief.specs.Lent.{arrays, counts, Relievable, Eased};
 
 // A ring was found and its channel enlarged: the ring's length, whose processes stand in the lent buffer, and the channel.
 pub enum ReliefAnswer {
@@ -30,25 +30,13 @@ pub enum Waiting {
     Full,
 }
 
-// The same as an element of an array in a struct, which must be a number or a struct itself.
-pub struct Way {
+// What a process waits for: how it waits; the process that it points to, 255 for none; the capacity of the channel of a full wait, 0 for
+// none; the channel. Public for the bench.
+pub struct Wait {
     pub waiting: Waiting,
-}
-
-// What a process waits for: the process that it points to, 255 for none; the capacity of the channel of a full wait, 0 for
-// none; the channel.
-struct Wait {
-    points: u8,
-    full: u16,
-    channel: u8,
-}
-
-// The same of each process, and how it waits. Public for the bench.
-pub struct Waits {
-    pub ways: [Way; 16],
-    pub points: [u8; 16],
-    pub full: [u16; 16],
-    pub channel: [u8; 16],
+    pub points: u8,
+    pub full: u16,
+    pub channel: u8,
 }
 
 // What the search gives: the ring in the first places, its length, 0 where none is found, and the channel; whether a ring
@@ -72,52 +60,122 @@ fn write(buffer: &mut [u8], ring: [u8; 16], n: usize)
     }
 }
 
-// Channel c grows by one, in an accepted call.
-fn grow(lane: Lane, c: usize) -> Lane
-    requires { ⌜ (c < 32) × (channelOf lane c .capacity < 256) ⌝ }
-    ensures { λ r. ⌜ r ≡ grown c lane ⌝ }
+// The relief of a sound lane with these arrays: the channel of the first ring that has a full wait below 256 grows by one, and the ring's
+// processes go into the front of the lent buffer. Refused in the order 13 or 14, 15. Public for the run, the driver and the bench, which have
+// tested once that the lane is sound.
+pub fn relieve_in(
+    used: usize,
+    code: &[u8; 4064],
+    first: &[u16; 16],
+    sender: &[u8; 32],
+    receiver: &[u8; 32],
+    positions: &[u16; 16],
+    conditions: &[u8; 16],
+    capacity: &mut [u16; 32],
+    oldest: &[u16; 32],
+    held: &[u16; 32],
+    closed: &[bool; 32],
+    ring: &mut [u8],
+) -> ReliefAnswer
+    requires { ⌜ Relievable used (arrays (now code) (now first) (now sender) (now receiver) (now positions) (now conditions) (now capacity) (now oldest) (now held) (now closed)) ⌝ }
+    ensures { λ r. ⌜ Eased used (arrays (now (code .entry)) (now (first .entry)) (now (sender .entry)) (now (receiver .entry)) (now (positions .entry)) (now (conditions .entry)) (now (capacity .entry)) (now (oldest .entry)) (now (held .entry)) (now (closed .entry))) (now (ring .entry)) r (now (capacity .exit)) (now (ring .exit)) ⌝ }
 {
-    let mut l = lane;
-    l.channels[c] = l.channels[c].enlarge();
-    l.accepted = process::counted(l.accepted);
-    l
+    let mut points = [255u8; 16];
+    let mut full = [0u16; 16];
+    let mut channel = [0u8; 16];
+    graph::waits_in(
+        used,
+        code,
+        first,
+        sender,
+        receiver,
+        positions,
+        conditions,
+        capacity,
+        oldest,
+        held,
+        closed,
+        &mut points,
+        &mut full,
+        &mut channel,
+    );
+    let sought = search::search(&points, &full, &channel, used);
+    let length = sought.length;
+    let c = sought.channel;
+    if length == 0 {
+        if sought.ceiling {
+            return ReliefAnswer::Refused(Refusal::Ceiling);
+        }
+        return ReliefAnswer::Refused(Refusal::NoRing);
+    }
+    if ring.len() < length {
+        return ReliefAnswer::Refused(Refusal::Buffer);
+    }
+    let members = sought.ring;
+    write(ring, members, length);
+    let grown = lane_parts::channel_at(c, capacity, oldest, held, closed).enlarge();
+    capacity[c] = grown.capacity;
+    ReliefAnswer::Enlarged { length, channel: c }
 }
 
-// The lane as it was.
-fn refused(lane: Lane, refusal: Refusal) -> Relieved
-    ensures { λ r. ⌜ r ≡ record { lane = lane; answer = ReliefAnswer.Refused refusal } ⌝ }
+// The lane that a relief left, with its answer: one that enlarged is an accepted call.
+fn answered(lane: Lane, answer: ReliefAnswer) -> Relieved
+    ensures { λ r. ⌜ r ≡ record { lane = counts (told answer) lane; answer = answer } ⌝ }
 {
-    Relieved {
-        lane,
-        answer: ReliefAnswer::Refused(refusal),
+    match answer {
+        ReliefAnswer::Enlarged { length, channel } => {
+            let mut l = lane;
+            l.accepted = process::counted(l.accepted);
+            Relieved {
+                lane: l,
+                answer: ReliefAnswer::Enlarged { length, channel },
+            }
+        }
+        ReliefAnswer::Refused(refusal) => Relieved {
+            lane,
+            answer: ReliefAnswer::Refused(refusal),
+        },
     }
 }
 
-// The channel of the first ring that has a full wait below 256 grows by one; the ring's processes go into the front of the
-// lent buffer. Refused in the order 16, 13 or 14, 15.
+// The relief of a lane, which is taken apart for it. Refused in the order 16, 13 or 14, 15.
 pub fn relieve(lane: Lane, ring: &mut [u8]) -> Relieved
     ensures { λ r. ⌜ relief (told (r .answer)) (r .lane) (now (ring .exit)) ≡ relieveOf lane (now (ring .entry)) ⌝ }
 {
     if !lane_sound::sound(lane) {
-        return refused(lane, Refusal::Unsound);
+        return answered(lane, ReliefAnswer::Refused(Refusal::Unsound));
     }
-    let net = lane.network;
-    let sought = search::search(graph::waits_of(lane), net.processes);
-    let length = sought.length;
-    let channel = sought.channel;
-    if length == 0 {
-        if sought.ceiling {
-            return refused(lane, Refusal::Ceiling);
-        }
-        return refused(lane, Refusal::NoRing);
-    }
-    if ring.len() < length {
-        return refused(lane, Refusal::Buffer);
-    }
-    let members = sought.ring;
-    write(ring, members, length);
-    Relieved {
-        lane: grow(lane, channel),
-        answer: ReliefAnswer::Enlarged { length, channel },
-    }
+    let code = lane.network.code;
+    let first = lane.network.first;
+    let sender = lane.network.sender;
+    let receiver = lane.network.receiver;
+    let processes = lane.processes;
+    let channels = lane.channels;
+    let mut positions = [0u16; 16];
+    let mut conditions = [0u8; 16];
+    let mut moves = [0u64; 16];
+    lane_parts::part_processes(processes, &mut positions, &mut conditions, &mut moves);
+    let mut capacity = [0u16; 32];
+    let mut oldest = [0u16; 32];
+    let mut held = [0u16; 32];
+    let mut closed = [false; 32];
+    lane_parts::part_channels(channels, &mut capacity, &mut oldest, &mut held, &mut closed);
+    let answer = relieve_in(
+        lane.network.processes,
+        &code,
+        &first,
+        &sender,
+        &receiver,
+        &positions,
+        &conditions,
+        &mut capacity,
+        &oldest,
+        &held,
+        &closed,
+        ring,
+    );
+    let after = lane_parts::join_channels(&capacity, &oldest, &held, &closed);
+    let mut l = lane;
+    l.channels = after;
+    answered(l, answer)
 }

@@ -1,6 +1,5 @@
 // The search for the ring to relieve.
 use crate::Sought;
-use crate::Waits;
 ghost use mathlib.Core.Path.{_≡_};
 ghost use mathlib.Core.Bool.{cond, not, _&&_, _||_};
 ghost use Prim.Native.Nat.{_≤_, _<_};
@@ -26,16 +25,11 @@ fn lesser(capacity: u16, channel: u8, other: u16, rival: u8) -> bool
 }
 
 // Of the processes q and best the one whose full wait is the one to relieve.
-fn better(waits: Waits, q: usize, best: usize) -> usize
+fn better(full: &[u16; 16], channel: &[u8; 16], q: usize, best: usize) -> usize
     requires { ⌜ (q < 16) × (best < 16) ⌝ }
-    ensures { λ r. ⌜ (r ≡ cond (lesser (getD (waits .full) q 0) (getD (waits .channel) q 0) (getD (waits .full) best 0) (getD (waits .channel) best 0)) q best) × (r < 16) ⌝ }
+    ensures { λ r. ⌜ (r ≡ cond (lesser (getD (now (full .entry)) q 0) (getD (now (channel .entry)) q 0) (getD (now (full .entry)) best 0) (getD (now (channel .entry)) best 0)) q best) × (r < 16) ⌝ }
 {
-    if lesser(
-        waits.full[q],
-        waits.channel[q],
-        waits.full[best],
-        waits.channel[best],
-    ) {
+    if lesser(full[q], channel[q], full[best], channel[best]) {
         q
     } else {
         best
@@ -61,13 +55,13 @@ fn either(x: bool, y: bool) -> bool
 
 // The ring to relieve: from each process in turn a walk along the pointings, until one leads back on a ring with a full
 // wait below 256. A ring whose full waits are all at 256, the largest capacity, is passed over and remembered.
-pub fn search(waits: Waits, count: usize) -> Sought
+pub fn search(points: &[u8; 16], full: &[u16; 16], channel: &[u8; 16], count: usize) -> Sought
     requires { ⌜ count ≤ 16 ⌝ }
-    ensures { λ r. ⌜ (foundOf r ≡ search (pointsIn (waits .points) count) (numberIn (waits .full)) (numberIn (waits .channel)) count) × (r .length ≤ 16) ⌝ }
+    ensures { λ r. ⌜ (foundOf r ≡ search (pointsIn (now (points .entry)) count) (numberIn (now (full .entry))) (numberIn (now (channel .entry))) count) × (r .length ≤ 16) ⌝ }
 {
     let mut ring = [0u8; 16];
     let mut length: usize = 0;
-    let mut channel: usize = 0;
+    let mut grows: usize = 0;
     let mut ceiling = false;
     let mut start: usize = 0;
     'search: while start < count {
@@ -76,14 +70,14 @@ pub fn search(waits: Waits, count: usize) -> Sought
         let mut n: usize = 0;
         while n < count {
             ring[n] = at as u8;
-            best = better(waits, at, best);
+            best = better(full, channel, at, best);
             n += 1;
-            let to = base::wide(waits.points[at]);
+            let to = base::wide(points[at]);
             if to == start {
-                let capacity = waits.full[best];
+                let capacity = full[best];
                 if below(capacity, 256) {
                     length = n;
-                    channel = base::wide(waits.channel[best]);
+                    grows = base::wide(channel[best]);
                     break 'search;
                 }
                 ceiling = either(ceiling, below(capacity, 257));
@@ -99,7 +93,7 @@ pub fn search(waits: Waits, count: usize) -> Sought
     Sought {
         ring,
         length,
-        channel,
+        channel: grows,
         ceiling,
     }
 }

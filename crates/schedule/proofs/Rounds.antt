@@ -8,17 +8,18 @@ use Prim.Native.Nat.{ℕ, zero, suc, _+_, _-_, _*_, _≤_, _<_}
 use native.Mathlib.Nat.{sub-self}
 use native.Mathlib.Omega.{arith}
 use lib.Dec.{eqb}
+use lib.IntN.{ℤ}
 use lib.ListN.{length, getD, take, length-take}
 use lib.Seq.{getD-take}
 use Rattle.base.specs.Lists.{values}
 use Rattle.base.proofs.Lists.{table-at}
 use Rattle.network.specs.declared.Network.{Network}
+use Rattle.lane.specs.declared.Lane.{Lane}
 use Rattle.lane.specs.State.{World, world}
 use Rattle.lane.specs.Pick.{Progress, pickAll, unpicked, Rounds, roundsEnd, recounted, pickRounds}
 use Rattle.schedule.specs.declared.End.{End}
 use Rattle.schedule.specs.declared.driving.Next.{Next}
 use Rattle.schedule.specs.declared.driving.Next.the-variants.{Ends, Goes}
-use Rattle.schedule.specs.declared.driving.After.{After}
 use Rattle.schedule.specs.Running.{Running, begun, picks}
 use Rattle.schedule.specs.Drive as drive
 use Rattle.schedule.specs.Drive.{turns, round, nextAfter, leftAfter, Drive, driven, rounds, drove, endOf, result, done}
@@ -69,9 +70,12 @@ abbrev onward : drive.Next → ℕ → ℕ → Running → Drive
 onward (drive.ends e) k n r = driven e n r
 onward drive.goes k n r = rounds k n r
 
--- the rule after rounds of which n were made and so many may follow
+-- the rule after rounds of which n were made and so many may follow, the last of which left w and moved so many
+abbrev ruledBy : World → ℕ → ℕ → ℕ → ℕ → Drive
+ruledBy w moved left grown n = onward (nextAfter (running w moved grown)) left n (leftAfter (running w moved grown))
+
 abbrev ruled : Rounds → ℕ → ℕ → Drive
-ruled q grown n = onward (nextAfter (inDrive (q .progress) grown)) (q .left) n (leftAfter (inDrive (q .progress) grown))
+ruled q grown n = ruledBy (q .progress .world) (q .progress .moved) (q .left) grown n
 
 round-more : (k n : ℕ) (r : Running) → rounds (suc k) n r ≡ onward (nextAfter (round r)) k (n + 1) (leftAfter (round r))
 round-more k n r = go (nextAfter (round r)) refl
@@ -136,52 +140,56 @@ moves-over : (P k n : ℕ) (w : World) (moved grown : ℕ) → done P (rounds k 
 moves-over P zero n w moved grown = refl
 moves-over P (suc k) n w moved grown = refl
 
-module _ {P most : ℕ} {n : Network} {w₀ : World} {w : World} {left grown : ℕ} (s : Going P most n w₀ w left grown) where
-  module _ (h : 0 < left) {q : Rounds} {a : After} (e : q ≡ pickRounds (left - 1) (take P order) (unpicked w)) (r : Ruled (q .progress .world .lane) (q .progress .moved) a) where
-    after-picks : Ready n (q .progress .world) × (q .left ≤ left - 1)
-    after-picks = rw e (ready-rounds n (left - 1) (take P order) (unpicked w) (round-low P n (s .high) (s .same)) (s .ready))
+-- rounds of the picks 0 to P − 1, one and so many more at most, left w′, the last of them moved so many, and so many might have followed
+pub record Rounded (P again : ℕ) (w w′ : World) (moved left : ℕ) : Type 0 where
+  pub place : pickRounds again (take P order) (unpicked w) .progress .world ≡ w′
+  pub count : pickRounds again (take P order) (unpicked w) .progress .moved ≡ moved
+  pub rest : pickRounds again (take P order) (unpicked w) .left ≡ left
 
-    pub fewer-left : q .left < left
+module _ {P most : ℕ} {n : Network} {w₀ : World} {w : World} {left grown : ℕ} (s : Going P most n w₀ w left grown) where
+  module _ (h : 0 < left) {l : Lane} {cells : List ℤ} {moved left′ : ℕ} (e : Rounded P (left - 1) w (world l cells) moved left′) where
+    pub after-picks : Ready n (world l cells) × (left′ ≤ left - 1)
+    after-picks = rw (← e .place, ← e .rest) (ready-rounds n (left - 1) (take P order) (unpicked w) (round-low P n (s .high) (s .same)) (s .ready))
+
+    pub fewer-left : left′ < left
     fewer-left = omega (arith, after-picks .1)
 
-    -- the rule after the rounds
-    rule-is : ruled q grown (most - q .left) ≡ onward (nextOf (a .next)) (q .left) (most - q .left) (running (world (a .lane) (q .progress .world .cells)) (q .progress .moved) (grown + a .enlarged))
-    rule-is =
-        rw (r .next, r .lane, r .enlarged)
-        (ap (onward (nextAfter (roundOn (q .progress .world .lane) (q .progress .moved))) (q .left) (most - q .left)) (left-is (q .progress .world .lane) (q .progress .world .cells) (q .progress .moved) grown))
-
-    rounds-ruled : rounds left (most - left) (running w 0 grown) ≡ ruled q grown (most - q .left)
+    rounds-ruled : rounds left (most - left) (running w 0 grown) ≡ ruledBy (world l cells) moved left′ grown (most - left′)
     rounds-ruled =
         let k : left ≡ suc (left - 1) = omega arith in
-        let m : most - left + (suc (left - 1) - q .left) ≡ most - q .left = omega (arith, fewer-left, s .within) in
+        let m : most - left + (suc (left - 1) - left′) ≡ most - left′ = omega (arith, fewer-left, s .within) in
         ap (λ (i : ℕ). rounds i (most - left) (running w 0 grown)) k
         ∙ rounds-are P n (s .high) (s .same) (left - 1) (most - left) (unpicked w) 0 grown (s .ready)
-        ∙ rw (← e) (ap (ruled q grown) m)
+        ∙ rw (e .place, e .count, e .rest) (ap (ruledBy (world l cells) moved left′ grown) m)
 
-    after-rounds : done P (onward (nextOf (a .next)) (q .left) (most - q .left) (running (world (a .lane) (q .progress .world .cells)) (q .progress .moved) (grown + a .enlarged)))
-        ≡ done P (rounds most 0 (begun w₀))
-    after-rounds = ap (done P) (sym (rounds-ruled ∙ rule-is)) ∙ s .rest
+    module _ {next : Next} {l′ : Lane} {gain : ℕ} (r : Ruled l moved next l′ gain) where
+      -- the rule after the rounds
+      rule-is : ruledBy (world l cells) moved left′ grown (most - left′) ≡ onward (nextOf next) left′ (most - left′) (running (world l′ cells) moved (grown + gain))
+      rule-is =
+          rw (r .follows, r .lane, r .grown) (ap (onward (nextAfter (roundOn l moved)) left′ (most - left′)) (left-is l cells moved grown))
 
-    pub rounds-ready : Ready n (world (a .lane) (q .progress .world .cells))
-    rounds-ready = rw (r .lane) (ready-left n (q .progress .world .lane) (q .progress .world .cells) (q .progress .moved) (after-picks .0))
+      after-rounds : done P (onward (nextOf next) left′ (most - left′) (running (world l′ cells) moved (grown + gain))) ≡ done P (rounds most 0 (begun w₀))
+      after-rounds = ap (done P) (sym (rounds-ruled ∙ rule-is)) ∙ s .rest
 
-    -- the drive ends
-    pub rounds-end : {end : End} → a .next ≡ Ends end
-        → result (drove (endOf end) (P * (most - q .left)) (grown + a .enlarged)) (world (a .lane) (q .progress .world .cells)) ≡ done P (rounds most 0 (begun w₀))
-    rounds-end x = rw x at after-rounds
+      pub rounds-ready : Ready n (world l′ cells)
+      rounds-ready = rw (r .lane) (ready-left n l cells moved (after-picks .0))
 
-    -- it goes on
-    pub rounds-go : a .next ≡ Goes → Going P most n w₀ (world (a .lane) (q .progress .world .cells)) (q .left) (grown + a .enlarged)
-    rounds-go x =
-        record {
-          high = s .high;
-          same = s .same;
-          long₀ = s .long₀;
-          ready = rounds-ready;
-          within = omega (arith, fewer-left, s .within);
-          few = omega (arith, r .few, s .few, fewer-left, s .within);
-          rest = sym (moves-over P (q .left) (most - q .left) (world (a .lane) (q .progress .world .cells)) (q .progress .moved) (grown + a .enlarged)) ∙ (rw x at after-rounds);
-        }
+      -- the drive ends
+      pub rounds-end : {end : End} → next ≡ Ends end → result (drove (endOf end) (P * (most - left′)) (grown + gain)) (world l′ cells) ≡ done P (rounds most 0 (begun w₀))
+      rounds-end x = rw x at after-rounds
+
+      -- it goes on
+      pub rounds-go : next ≡ Goes → gain ≤ 1 → Going P most n w₀ (world l′ cells) left′ (grown + gain)
+      rounds-go x few =
+          record {
+            high = s .high;
+            same = s .same;
+            long₀ = s .long₀;
+            ready = rounds-ready;
+            within = omega (arith, fewer-left, s .within);
+            few = omega (arith, few, s .few, fewer-left, s .within);
+            rest = sym (moves-over P left′ (most - left′) (world l′ cells) moved (grown + gain)) ∙ (rw x at after-rounds);
+          }
 
   -- no round is left
   pub rounds-spent : left ≡ 0 → result (drove drive.spent (P * (most - left)) grown) w ≡ done P (rounds most 0 (begun w₀))

@@ -3,47 +3,55 @@
 use mathlib.Core.Path.{_≡_, refl, sym, ap, _∙_}
 use mathlib.Core.Bool.{Bool, true, false, cond}
 use mathlib.Core.List.{List, []}
-use Prim.Native.Nat.{ℕ, _+_, _≤_}
+use Prim.Native.Nat.{ℕ, _+_}
 use native.Mathlib.Omega.{arith}
 use borrow.Author.Tests.{eq-eqb, ne-eqb}
 use lib.Dec.{eqb}
 use lib.IntN.{ℤ}
 use lib.ListN.{replicate}
+use Rattle.base.specs.declared.Refusal.{Refusal}
+use Rattle.base.specs.Refusals.{numberOf}
 use Rattle.network.specs.declared.Network.{Network}
+use Rattle.process.specs.declared.Channel.{Channel}
 use Rattle.lane.specs.declared.Lane.{Lane}
-use Rattle.lane.specs.State.{world}
-use Rattle.relief.specs.Relief.{Told, enlarged, refused, relieveOf}
+use Rattle.lane.specs.State.{world, putChannels}
+use Rattle.lane_parts.specs.Parts.{channelsOf}
+use Rattle.relief.specs.declared.ReliefAnswer.{ReliefAnswer}
+use Rattle.relief.specs.declared.ReliefAnswer.the-variants.{Enlarged, Refused}
+use Rattle.relief.specs.Relief.{enlarged, refused, told, relieveOf}
+use Rattle.relief.specs.Lent.{Arrays, Shows, Relievable}
 use Rattle.schedule.specs.declared.End.{End}
 use Rattle.schedule.specs.declared.driving.Next.the-variants.{Ends, Goes}
-use Rattle.schedule.specs.Running.{Running, hasGrown, relieves}
-use Rattle.schedule.specs.Drive.{ends, goes, endOf, byRelief, nextAfter, leftAfter}
+use Rattle.schedule.specs.Running.{hasGrown, relieves}
+use Rattle.schedule.specs.Drive.{ends, endOf, byRelief, leftAfter}
 use Rattle.schedule.specs.Parts.{roundOn, Ruled}
+use Rattle.schedule.specs.Lent.{countBy, Relieved, RuledIn}
 use Rattle.schedule.proofs.Ready.{Ready, ready-relief}
 use Rattle.schedule.proofs.Through.{running}
 
 -- ---- by cases
 module _ (l : Lane) (moved : ℕ) where
   -- a round with a move
-  pub ruled-moved : (moved ≡ 0 → ⊥) → Ruled l moved (record { lane = l; enlarged = 0; next = Goes })
-  ruled-moved n =
+  pub ruled-moved : {l′ : Lane} → (moved ≡ 0 → ⊥) → l′ ≡ l → Ruled l moved Goes l′ 0
+  ruled-moved n e =
       let b = ne-eqb moved 0 n in
-      record { next = rw b; lane = rw b; enlarged = rw b; few = omega arith }
+      record { follows = rw b; lane = rw b e; grown = rw b }
 
   -- one without, and the relief enlarged
   pub ruled-grew : {l′ : Lane} {k c : ℕ} → moved ≡ 0 → enlarged k c ≡ relieveOf l (replicate 16 0) .answer → l′ ≡ relieveOf l (replicate 16 0) .lane
-      → Ruled l moved (record { lane = l′; enlarged = 1; next = Goes })
+      → Ruled l moved Goes l′ 1
   unfolding relieves
   ruled-grew z a e =
       let b = eq-eqb moved 0 z in
-      record { next = rw (b, ← a); lane = rw b e; enlarged = rw (b, ← a); few = omega arith }
+      record { follows = rw (b, ← a); lane = rw b e; grown = rw (b, ← a) }
 
   -- one without, and the relief was refused
   pub ruled-ended : {l′ : Lane} {k : ℕ} {end : End} → moved ≡ 0 → refused k ≡ relieveOf l (replicate 16 0) .answer → l′ ≡ relieveOf l (replicate 16 0) .lane
-      → ends (endOf end) ≡ byRelief (refused k) → Ruled l moved (record { lane = l′; enlarged = 0; next = Ends end })
+      → ends (endOf end) ≡ byRelief (refused k) → Ruled l moved (Ends end) l′ 0
   unfolding relieves
   ruled-ended z a e f =
       let b = eq-eqb moved 0 z in
-      record { next = rw (b, ← a) f; lane = rw b e; enlarged = rw (b, ← a); few = omega arith }
+      record { follows = rw (b, ← a) f; lane = rw b e; grown = rw (b, ← a) }
 
 -- ---- in a drive
 -- the lane and cells, and the enlargements, of a round after which the rule left the lane l′ and counted so many enlargements
@@ -69,3 +77,39 @@ module _ (n : Network) (l : Lane) (cells : List ℤ) (moved : ℕ) where
   pub ready-left : Ready n (world l cells) → Ready n (world (leftAfter (roundOn l moved) .world .lane) cells)
   unfolding relieves
   ready-left s = ready-by (relieveOf l (replicate 16 0) .lane) _ (eqb moved 0) (ready-relief n (world l cells) (replicate 16 0) s) s
+
+-- ---- on lent arrays
+-- a lane with the channels that it has
+same-lane : (v : Arrays) (l : Lane) → Shows v l → countBy 0 (putChannels (channelsOf (v .capacity) (v .oldest) (v .held) (v .closed)) l) ≡ l
+same-lane v l s = ap (λ (hs : List Channel). putChannels hs l) (sym (s .channel))
+
+module _ (moved : ℕ) {used : ℕ} {v : Arrays} where
+  -- a round with a move
+  pub moved-in : (moved ≡ 0 → ⊥) → Relievable used v → RuledIn moved used v (record { enlarged = 0; next = Goes }) (v .capacity)
+  moved-in n k =
+      record { thirtyTwo = k .long .thirtyTwo; few = omega arith; leaves = λ l shows sound all. ruled-moved l moved n (same-lane v l shows) }
+
+  module _ {r : ReliefAnswer} {capacity′ : List ℕ} (z : moved ≡ 0) (d : Relieved used v r (cond (hasGrown (told r)) 1 0) capacity′) where
+    -- one without, and the relief enlarged
+    pub grew-in : {k c : ℕ} → r ≡ Enlarged k c → RuledIn moved used v (record { enlarged = 1; next = Goes }) capacity′
+    grew-in {k} {c} e =
+        record {
+          thirtyTwo = d .thirtyTwo;
+          few = omega arith;
+          leaves =
+              λ l shows sound all.
+              let y = d .leaves l shows sound all in
+              ruled-grew l moved z (sym (ap told e) ∙ y .0) (rw (e) at (y .1));
+        }
+
+    -- one without, and the relief was refused
+    pub ended-in : {refusal : Refusal} {end : End} → r ≡ Refused refusal → ends (endOf end) ≡ byRelief (refused (numberOf refusal)) → RuledIn moved used v (record { enlarged = 0; next = Ends end }) capacity′
+    ended-in {refusal} {end} e f =
+        record {
+          thirtyTwo = d .thirtyTwo;
+          few = omega arith;
+          leaves =
+              λ l shows sound all.
+              let y = d .leaves l shows sound all in
+              ruled-ended l moved z (sym (ap told e) ∙ y .0) (rw (e) at (y .1)) f;
+        }

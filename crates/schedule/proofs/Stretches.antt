@@ -1,16 +1,17 @@
 -- The bytes of a run in stretches: picks up to the next 255, then its relief; and what the loop over the stretches keeps.
 -- Assumes nothing.
 use mathlib.Core.Path.{_≡_, refl, sym, ap, _∙_}
-use mathlib.Core.Bool.{Bool, true, false, cond, _||_, not}
+use mathlib.Core.Bool.{Bool, true, false, cond, _||_, not, true≢false}
 use mathlib.Core.List.{List, [], _∷_, _++_}
 use Prim.Native.Nat.{ℕ, suc, _+_, _-_, _≤_, _<_}
 use native.Mathlib.Numerals.{add-one}
 use native.Mathlib.Omega.{arith}
-use borrow.Author.Tests.{ltb-true, eqb-true, eq-eqb, ne-eqb, not-false}
-use lib.Dec.{eqb, ltb}
+use borrow.Author.Tests.{ltb-true, eq-eqb, ne-eqb, not-false}
+use lib.Dec.{eqb}
 use lib.IntN.{ℤ}
 use lib.ListN.{length, getD, take, drop, replicate, length-take, length-drop, take-append-drop, drop-of-length-le}
 use lib.Seq.{drop-cons, drop-drop, getD-drop, getD-take}
+use Rattle.base.specs.Tests.{firstBad, isGood}
 use Rattle.network.specs.declared.Network.{Network}
 use Rattle.lane.specs.declared.Lane.{Lane}
 use Rattle.lane.specs.State.{World, world}
@@ -19,7 +20,7 @@ use Rattle.lane.proofs.SoundLaws.{at-each}
 use Rattle.relief.specs.Relief.{Told, relieveOf}
 use Rattle.schedule.specs.Running.{Running, begun, picks, hasGrown, relieves}
 use Rattle.schedule.specs.Run.{byteRun, bytesRun, named, someUnnamed}
-use Rattle.schedule.specs.Parts.{Stretch}
+use Rattle.schedule.specs.Parts.{isPick, Stretch}
 use Rattle.schedule.proofs.Ready.{Ready, ready-all, ready-relief}
 use Rattle.schedule.proofs.Through.{running, through, through-is, few-moves}
 
@@ -86,6 +87,11 @@ pub all-named :
 all-named bytes w e k h n =
     let t = at-each (named bytes (w .lane .network .processes)) 0 (length bytes) (not-false _ e) k (omega arith) (omega arith) in
     ltb-true _ _ (one-of _ (eqb (getD bytes k 0) 255) t (ne-eqb _ 255 n))
+
+-- where all are picks, none is 255
+pub no-relief : (bytes : List ℕ) → isGood (firstBad (isPick bytes) 0 (length bytes)) ≡ true → (k : ℕ) → k < length bytes → getD bytes k 0 ≡ 255 → ⊥
+no-relief bytes e k h f =
+    true≢false (sym (at-each (isPick bytes) 0 (length bytes) e k (omega arith) (omega arith)) ∙ ap not (eq-eqb (getD bytes k 0) 255 f))
 
 -- ---- what the loop over the stretches keeps: the first i bytes are made and have led to r, the others lead on to the end
 pub record Partway (bytes : List ℕ) (n : Network) (w₀ : World) (i : ℕ) (r : Running) : Type 0 where

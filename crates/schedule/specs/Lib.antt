@@ -3,3 +3,4 @@ pub mod Run
 pub mod Drive
 pub mod Reliefs
 pub mod Parts
+pub mod Lent

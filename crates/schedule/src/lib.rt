@@ -1,16 +1,21 @@
 // A run over given picks, and the driver.
+mod bytes;
 mod driving;
 mod running;
 
 use base::Refusal;
+pub use bytes::all_named;
 pub use driving::drive;
 use lane::Lane;
-use relief::Relieved;
+use relief::ReliefAnswer;
 pub use running::run;
-pub use running::unnamed;
 ghost use mathlib.Core.Path.{_≡_};
-ghost use lib.ListN.{replicate};
-ghost use Rattle.relief.specs.Relief.{told, relieveOf};
+ghost use mathlib.Core.Bool.{cond};
+ghost use Prim.Native.Nat.{_≤_};
+ghost use Rattle.relief.specs.Relief.{told};
+ghost use Rattle.relief.specs.Lent.{arrays, Relievable};
+ghost use Rattle.schedule.specs.Running.{hasGrown};
+ghost use Rattle.schedule.specs.Lent.{countedBy, Relieved};
 
 pub enum RunAnswer {
     Ran { moved: u64, enlarged: u64 },
@@ -39,10 +44,60 @@ pub struct DriveResult {
     pub answer: DriveAnswer,
 }
 
-// A relief with a ring buffer of its own, which has room for any ring. Public for the bench.
-pub fn relieve(lane: Lane) -> Relieved
-    ensures { λ r. ⌜ (told (r .answer) ≡ relieveOf lane (replicate 16 0) .answer) × (r .lane ≡ relieveOf lane (replicate 16 0) .lane) ⌝ }
+// How many reliefs more have enlarged: one, or none.
+fn gained(answer: ReliefAnswer) -> u64
+    ensures { λ r. ⌜ (r ≡ cond (hasGrown (told answer)) 1 0) × (r ≤ 1) ⌝ }
+{
+    match answer {
+        ReliefAnswer::Enlarged {
+            length: _,
+            channel: _,
+        } => 1,
+        ReliefAnswer::Refused(_) => 0,
+    }
+}
+
+// The count of accepted calls after so many reliefs that enlarged, one or none.
+fn count_by(enlarged: u64, accepted: u64) -> u64
+    ensures { λ r. ⌜ r ≡ countedBy enlarged accepted ⌝ }
+{
+    if enlarged == 0 {
+        return accepted;
+    }
+    process::counted(accepted)
+}
+
+// The relief of a sound lane with these arrays, with a ring buffer of its own, which has room for any ring. Public for the bench, which has
+// tested once that the lane is sound.
+pub fn relieve_in(
+    used: usize,
+    code: &[u8; 4064],
+    first: &[u16; 16],
+    sender: &[u8; 32],
+    receiver: &[u8; 32],
+    positions: &[u16; 16],
+    conditions: &[u8; 16],
+    capacity: &mut [u16; 32],
+    oldest: &[u16; 32],
+    held: &[u16; 32],
+    closed: &[bool; 32],
+) -> ReliefAnswer
+    requires { ⌜ Relievable used (arrays (now code) (now first) (now sender) (now receiver) (now positions) (now conditions) (now capacity) (now oldest) (now held) (now closed)) ⌝ }
+    ensures { λ r. ⌜ Relieved used (arrays (now (code .entry)) (now (first .entry)) (now (sender .entry)) (now (receiver .entry)) (now (positions .entry)) (now (conditions .entry)) (now (capacity .entry)) (now (oldest .entry)) (now (held .entry)) (now (closed .entry))) r (cond (hasGrown (told r)) 1 0) (now (capacity .exit)) ⌝ }
 {
     let mut ring = [0u8; 16];
-    relief::relieve(lane, &mut ring)
+    relief::relieve_in(
+        used,
+        code,
+        first,
+        sender,
+        receiver,
+        positions,
+        conditions,
+        capacity,
+        oldest,
+        held,
+        closed,
+        &mut ring,
+    )
 }

@@ -1,14 +1,21 @@
 //! Many picks, for counts of instructions.
 //!
-//! pace FOLDER run|drive LAPS
+//! pace FOLDER run|drive|message LAPS
+//! pace files FOLDER
 //!
 //! For each of ring.bin, pipeline.bin and arithmetic.bin: a fresh lane, and so
 //! many laps of 4,096 picks, each lap in turn from process 0, as a run over
-//! these picks or as a drive with this number. Prints the moves of all
-//! processes together.
+//! these picks or as a drive with this number; `message` does the same with
+//! message.bin alone, as a run. Prints the moves of all processes together.
+//!
+//! In message.bin one process sends 255 times and jumps back, the other
+//! receives 255 times and jumps back: in a lap each of the two goes through its
+//! code 8 times, and 8 times 255 messages go from one to the other.
+//! `pace files` writes this file to the folder.
 
 use reference::file;
 use reference::lane::{Lane, CELLS};
+use reference::network::{code, Network, Record};
 use reference::schedule::{drive, run};
 use std::process::ExitCode;
 
@@ -16,18 +23,22 @@ const PICKS: usize = 4_096;
 
 fn main() -> ExitCode {
     let arguments: Vec<String> = std::env::args().skip(1).collect();
-    let [folder, how, laps] = arguments.as_slice() else {
-        return usage();
+    let (folder, how, laps) = match arguments.as_slice() {
+        [files, folder] if files == "files" => return write(folder),
+        [folder, how, laps] => (folder, how, laps),
+        _ => return usage(),
     };
     let Ok(laps) = laps.parse() else {
         return usage();
     };
-    let drives = match how.as_str() {
-        "run" => false,
-        "drive" => true,
+    let lanes = ["ring", "pipeline", "arithmetic"];
+    let (names, drives) = match how.as_str() {
+        "run" => (&lanes[..], false),
+        "drive" => (&lanes[..], true),
+        "message" => (&["message"][..], false),
         _ => return usage(),
     };
-    for name in ["ring", "pipeline", "arithmetic"] {
+    for name in names {
         match moves(&format!("{folder}/{name}.bin"), drives, laps) {
             Ok(moves) => println!("{name}: {moves} moves"),
             Err(reason) => {
@@ -40,8 +51,26 @@ fn main() -> ExitCode {
 }
 
 fn usage() -> ExitCode {
-    eprintln!("pace FOLDER run|drive LAPS");
+    eprintln!("pace FOLDER run|drive|message LAPS, or pace files FOLDER");
     ExitCode::from(2)
+}
+
+/// One process that does nothing but send, and one that does nothing but
+/// receive.
+fn message() -> Network {
+    let again = |instruction| [vec![instruction; 255], vec![code(8, 0, 0, 0)]].concat();
+    let programs = [again(code(12, 0, 0, 0)), again(code(11, 0, 0, 0))];
+    Network::of(&programs, &[Record { sender: 0, receiver: 1, capacity: 1 }])
+}
+
+fn write(folder: &str) -> ExitCode {
+    match std::fs::write(format!("{folder}/message.bin"), file::bytes_of(&message())) {
+        Ok(()) => ExitCode::SUCCESS,
+        Err(error) => {
+            eprintln!("{folder}/message.bin: {error}");
+            ExitCode::FAILURE
+        }
+    }
 }
 
 fn moves(path: &str, drives: bool, laps: usize) -> Result<u64, String> {

@@ -2,8 +2,10 @@
 -- Assumes nothing.
 use mathlib.Core.Path.{_≡_, sym, ap, _∙_}
 use mathlib.Core.Bool.{false, not}
+use native.Mathlib.Omega.{arith}
 use borrow.Author.Needs.{needs}
-use Rattle.base.specs.Tests.{isGood}
+use borrow.Author.Tests.{not-true, not-false}
+use Rattle.network.proofs.Passed.{passed}
 use Rattle.bench.specs.Bench.{inputWrong, picksWrong}
 use Rattle.bench.proofs.play.Statement.{statement}
 use Rattle.bench.proofs.play.Tie as tie
@@ -13,11 +15,11 @@ right : (c : tie.Else1)
     → inputWrong (c .before .before .before .before .before .args .net) (c .before .before .before .before .before .args .input .now) (c .before .before .before .before .before .args .picks .now) ≡ false
 right c = sym (c .before .input-wrong .ensures) ∙ c .if1 .left
 
-abbrev else-of : tie.After-enum-told → tie.Else1
+abbrev else-of : tie.Else2 → tie.Else1
 else-of c = c .before .before .before
 
-all-named : (c : tie.After-enum-told) → picksWrong (else-of c .before .before .before .before .before .args .net) (else-of c .before .before .before .before .before .args .picks .now) ≡ false
-all-named c = ap (λ v. not (isGood v)) (sym (c .before .before .unnamed .ensures) ∙ c .enum-told .given .1)
+all-named : (c : tie.Else2) → picksWrong (else-of c .before .before .before .before .before .args .net) (else-of c .before .before .before .before .before .args .picks .now) ≡ false
+all-named c = ap not (sym (c .before .all-named .ensures) ∙ not-false _ (c .if2 .left))
 
 -- ---- the needs
 input-wrong-requires : tie.Need-input-wrong-requires
@@ -26,17 +28,15 @@ input-wrong-requires c κs = search needs
 returns : tie.Need-returns
 returns c = rw (sym (c .before .input-wrong .ensures) ∙ c .if1 .taken)
 
-unnamed-requires : tie.Need-unnamed-requires
-unnamed-requires c κs = search needs
+-- a network that passes has at most 16 processes
+cast-all-named : tie.Need-cast-all-named
+cast-all-named c = omega (arith, passed _ (c .before .before .before .before .before .before .pre .0) .processes-high)
 
-enum-told : tie.Need-enum-told
-enum-told c = search needs
-
-enum-told-2 : tie.Need-enum-told-2
-enum-told-2 c = search needs
+all-named-requires : tie.Need-all-named-requires
+all-named-requires c κs = search needs
 
 returns-2 : tie.Need-returns-2
-returns-2 c = rw (right (c .before .before .before), sym (c .before .before .unnamed .ensures) ∙ c .enum-told2 .given .1)
+returns-2 c = rw (right (c .before .before .before), sym (c .before .all-named .ensures) ∙ not-true _ (c .if2 .taken))
 
 list-requires : tie.Need-list-requires
 list-requires c κs =
@@ -59,9 +59,8 @@ play-spec =
     (tie.spec
     input-wrong-requires
     returns
-    unnamed-requires
-    enum-told
-    enum-told-2
+    cast-all-named
+    all-named-requires
     returns-2
     list-requires
     same-length

@@ -4,8 +4,8 @@ use borrow.Author.Needs.{needs}
 use Rattle.bench_takes.proofs.mark.Statement.{statement}
 use Rattle.bench_takes.proofs.mark.Tie as tie
 
-array-write-marked : tie.Need-array-write-marked
-array-write-marked c = search needs
+element-write-given : tie.Need-element-write-given
+element-write-given c = search needs
 
 returns : tie.Need-returns
 returns c = rw (c .if1 .taken)
@@ -14,4 +14,4 @@ returns-2 : tie.Need-returns-2
 returns-2 c = rw (c .if1 .left)
 
 pub mark-spec : {M : Type 1} → statement M
-mark-spec = tie.close (tie.spec array-write-marked returns returns-2)
+mark-spec = tie.close (tie.spec element-write-given returns returns-2)

@@ -1,26 +1,9 @@
--- `call_parts::answer_to` meets its contract, outcome by outcome.
+-- `call_parts::answer_to` meets its contract, test by test.
 -- Assumes nothing.
 use borrow.Author.Needs.{needs}
+use borrow.Author.Tests.{eq-eqb, ne-eqb}
 use Rattle.call_parts.proofs.answer_to.Statement.{statement}
 use Rattle.call_parts.proofs.answer_to.Tie as tie
-
-enum-told : tie.Need-enum-told
-enum-told c = search needs
-
-enum-told-2 : tie.Need-enum-told-2
-enum-told-2 c = search needs
-
-enum-told-3 : tie.Need-enum-told-3
-enum-told-3 c = search needs
-
-enum-told-4 : tie.Need-enum-told-4
-enum-told-4 c = search needs
-
-enum-told-5 : tie.Need-enum-told-5
-enum-told-5 c = search needs
-
-enum-told-6 : tie.Need-enum-told-6
-enum-told-6 c = search needs
 
 returns : tie.Need-returns
 returns c = search needs
@@ -29,30 +12,10 @@ returns-2 : tie.Need-returns-2
 returns-2 c = search needs
 
 returns-3 : tie.Need-returns-3
-returns-3 c = search needs
+returns-3 c = rw (c .before .before .if1 .left, c .before .if2 .left, eq-eqb (c .before .before .before .args .op) 11 (c .if3 .taken))
 
 returns-4 : tie.Need-returns-4
-returns-4 c = rw (c .enum-told4 .given .1)
-
-returns-5 : tie.Need-returns-5
-returns-5 c = rw (c .enum-told5 .given .1)
-
-returns-6 : tie.Need-returns-6
-returns-6 c = search needs
+returns-4 c = rw (c .before .before .if1 .left, c .before .if2 .left, ne-eqb (c .before .before .before .args .op) 11 (c .if3 .left))
 
 pub answer-to-spec : {M : Type 1} → statement M
-answer-to-spec =
-    tie.close
-    (tie.spec
-    enum-told
-    enum-told-2
-    enum-told-3
-    enum-told-4
-    enum-told-5
-    enum-told-6
-    returns
-    returns-2
-    returns-3
-    returns-4
-    returns-5
-    returns-6)
+answer-to-spec = tie.close (tie.spec returns returns-2 returns-3 returns-4)

@@ -15,18 +15,18 @@ use Rattle.relief.proofs.search.search.Statement.{statement}
 use Rattle.relief.proofs.search.search.Tie as tie
 
 abbrev Inv-loop : tie.InvT-loop
-Inv-loop count waits ring₀ length₀ channel₀ ceiling₀ start at₀ best₀ n₀ ring length channel ceiling at best n =
-    (length ≡ 0) × (ceiling ≡ ceiling₀) × Trail (pointsIn (waits .points) count) (numberIn (waits .full)) (numberIn (waits .channel)) count ring start at best n
+Inv-loop points full channel count ring₀ length₀ grows₀ ceiling₀ start at₀ best₀ n₀ ring length grows ceiling at best n =
+    (length ≡ 0) × (ceiling ≡ ceiling₀) × Trail (pointsIn points count) (numberIn full) (numberIn channel) count ring start at best n
 
 abbrev μ-loop : tie.MeasureT-loop
-μ-loop count waits ring₀ length₀ channel₀ ceiling₀ start at₀ best₀ n₀ ring length channel ceiling at best n = 16 - n
+μ-loop points full channel count ring₀ length₀ grows₀ ceiling₀ start at₀ best₀ n₀ ring length grows ceiling at best n = 16 - n
 
 abbrev Inv-search : tie.InvT-search
-Inv-search count waits ring₀ length₀ channel₀ ceiling₀ start₀ ring length channel ceiling start =
-    (length ≡ 0) × Passed (pointsIn (waits .points) count) (numberIn (waits .full)) count ring start ceiling
+Inv-search points full channel count ring₀ length₀ grows₀ ceiling₀ start₀ ring length grows ceiling start =
+    (length ≡ 0) × Passed (pointsIn points count) (numberIn full) count ring start ceiling
 
 abbrev μ-search : tie.MeasureT-search
-μ-search count waits ring₀ length₀ channel₀ ceiling₀ start₀ ring length channel ceiling start = count - start
+μ-search points full channel count ring₀ length₀ grows₀ ceiling₀ start₀ ring length grows ceiling start = count - start
 
 search-holds : tie.Need-search-holds Inv-loop μ-loop Inv-search μ-search
 search-holds c = (refl, passed-none _ _ _ _ refl)
@@ -78,7 +78,7 @@ loop-less c = search needs
 
 -- where the pointing of the process at hand leads
 leads : (c : tie.After-wide Inv-loop μ-loop Inv-search μ-search)
-    → pointsIn (c .before .before .before .before .before .before .before .args .t1 .points) (c .before .before .before .before .before .before .before .args .count) (c .before .before .before .before .loop .at)
+    → pointsIn (c .before .before .before .before .before .before .before .args .points .now) (c .before .before .before .before .before .before .before .args .count) (c .before .before .before .before .loop .at)
     ≡ c .wide .result
 leads c = points-at _ _ _ (c .before .before .before .before .loop .inv .2 .inside) ∙ sym (c .wide .ensures)
 

@@ -1,6 +1,6 @@
 -- `schedule::driving::drive` meets its contract: the tests are made in the order of the definition, and then the rounds.
 -- Assumes nothing.
-use mathlib.Core.Path.{_≡_, refl, sym, ap, _∙_}
+use mathlib.Core.Path.{_≡_, sym, ap, _∙_}
 use mathlib.Core.Bool.{true, false, not}
 use Prim.Native.Nat.{_≤_}
 use borrow.Author.Needs.{needs}
@@ -50,7 +50,7 @@ div-rounds c = omega (arith, some (c .before .before))
 rounds-requires : tie.Need-rounds-requires
 rounds-requires c κs =
     let a = c .before .before .before .before .before .args in
-    (long (c .before .before .before .before), ap not (sound (c .before .before)), refl, omega (arith, mul-div-le (a .budget) (a .lane .network .processes), c .before .before .before .before .before .fits .budget))
+    (long (c .before .before .before .before), ap not (sound (c .before .before)), omega (arith, mul-div-le (a .budget) (a .lane .network .processes), c .before .before .before .before .before .fits .budget))
 
 same-length : tie.Need-same-length
 same-length c = search needs

@@ -1,6 +1,5 @@
 -- `schedule::driving::end_by` meets its contract.
 -- Assumes nothing.
-use mathlib.Core.Path.{sym, _∙_}
 use borrow.Author.Needs.{needs}
 use borrow.Author.Tests.{eq-eqb, ne-eqb}
 use Rattle.schedule.proofs.driving.end_by.Statement.{statement}

@@ -1,13 +1,15 @@
 -- `schedule::running::run` meets its contract: the tests are made in the order of the definition, and then the bytes in turn.
 -- Assumes nothing.
 use mathlib.Core.Path.{_≡_, sym, ap, _∙_}
-use mathlib.Core.Bool.{true, false, not}
+use mathlib.Core.Bool.{false, not}
+use Prim.Native.Nat.{_≤_}
+use native.Mathlib.Omega.{arith}
 use borrow.Author.Needs.{needs}
 use borrow.Author.Tests.{eq-eqb, ne-eqb, not-true, not-false}
-use Rattle.base.specs.Tests.{isGood}
+use Rattle.network.proofs.Passed.{passed}
 use Rattle.lane.specs.State.{world}
-use Rattle.lane.specs.Sound.{soundOf}
 use Rattle.lane.specs.Calls.{cellsWrong, unsound}
+use Rattle.lane.proofs.SoundLaws.{sound-says}
 use Rattle.schedule.specs.Run.{someUnnamed, runOf}
 use Rattle.schedule.proofs.running.run.Statement.{statement}
 use Rattle.schedule.proofs.running.run.Tie as tie
@@ -19,10 +21,13 @@ long c = ap not (eq-eqb _ 8192 (c .if1 .left))
 sound : (c : tie.Else2) → unsound (world (c .before .before .before .before .args .lane) (c .before .before .before .before .args .cells .now)) ≡ false
 sound c = ap not (sym (c .before .sound .ensures) ∙ not-false _ (c .if2 .left))
 
+few : (c : tie.Else2) → c .before .before .before .before .args .lane .network .processes ≤ 16
+few c = passed _ (sound-says _ (not-false _ (sound c)) .passed) .processes-high
+
 all-named :
-    (c : tie.After-enum-told)
+    (c : tie.Else3)
     → someUnnamed (c .before .before .before .before .before .before .before .before .args .picks .now) (world (c .before .before .before .before .before .before .before .before .args .lane) (c .before .before .before .before .before .before .before .before .args .cells .now)) ≡ false
-all-named c = ap (λ v. not (isGood v)) (sym (c .before .before .unnamed .ensures) ∙ c .enum-told .given .1)
+all-named c = ap not (sym (c .before .all-named .ensures) ∙ not-false _ (c .if3 .left))
 
 -- ---- the needs
 refused-requires : tie.Need-refused-requires
@@ -42,14 +47,11 @@ returns-2 : tie.Need-returns-2
 unfolding runOf
 returns-2 c = rw (c .refused2 .ensures, long (c .before .before .before), sym (c .before .before .sound .ensures) ∙ not-true _ (c .before .if2 .taken))
 
-unnamed-requires : tie.Need-unnamed-requires
-unnamed-requires c κs = search needs
+cast-all-named : tie.Need-cast-all-named
+cast-all-named c = omega (arith, few (c .before .before))
 
-enum-told : tie.Need-enum-told
-enum-told c = search needs
-
-enum-told-2 : tie.Need-enum-told-2
-enum-told-2 c = search needs
+all-named-requires : tie.Need-all-named-requires
+all-named-requires c κs = search needs
 
 refused-requires-3 : tie.Need-refused-requires-3
 refused-requires-3 c κs = search needs
@@ -61,7 +63,7 @@ returns-3 c =
       c .refused3 .ensures,
       long (c .before .before .before .before .before .before .before),
       sound (c .before .before .before .before .before),
-      sym (c .before .before .before .unnamed .ensures) ∙ c .before .enum-told2 .given .1,
+      sym (c .before .before .all-named .ensures) ∙ not-true _ (c .before .if3 .taken),
     )
 
 bytes-requires : tie.Need-bytes-requires
@@ -73,11 +75,7 @@ same-length c = search needs
 returns-4 : tie.Need-returns-4
 unfolding runOf
 returns-4 c =
-    rw (
-      long (c .before .before .before .before .before .before .before .before .before),
-      sound (c .before .before .before .before .before .before .before),
-      all-named (c .before .before .before),
-    )
+    rw (long (c .before .before .before .before .before .before .before .before .before), sound (c .before .before .before .before .before .before .before), all-named (c .before .before .before))
     (c .before .bytes .ensures)
 
 pub run-spec : {M : Type 1} → statement M
@@ -89,9 +87,8 @@ run-spec =
     sound-requires
     refused-requires-2
     returns-2
-    unnamed-requires
-    enum-told
-    enum-told-2
+    cast-all-named
+    all-named-requires
     refused-requires-3
     returns-3
     bytes-requires

@@ -1,0 +1,4 @@
+pub mod Drop
+pub mod One
+pub mod Running
+pub mod Single

@@ -1,0 +1,89 @@
+-- The arrays of a lane as a relief sees them, and a relief with room for any ring.
+-- Assumes nothing.
+use mathlib.Core.Path.{_≡_, refl, sym, ap, _∙_}
+use mathlib.Core.Bool.{true, cond}
+use mathlib.Core.List.{List}
+use Prim.Native.Nat.{ℕ, zero, suc}
+use lib.IntN.{ℤ}
+use lib.ListN.{length, replicate}
+use Rattle.network.specs.declared.Network.{Network}
+use Rattle.process.specs.Want.{counted}
+use Rattle.lane.specs.declared.Lane.{Lane}
+use Rattle.lane.specs.State.{world, putChannels}
+use Rattle.lane.specs.Sound.{soundOf}
+use Rattle.lane_parts.specs.Parts.{channelsOf, laneOf, Parts, parts, Full, Fixed, Lent}
+use Rattle.lane_parts.proofs.Lanes.{shown, sound-counted, fixedOf, lent-of}
+use Rattle.relief.specs.declared.ReliefAnswer.{ReliefAnswer}
+use Rattle.relief.specs.Relief.{Told, enlarged, refused, told, Relief}
+use Rattle.relief.specs.Lent.{Arrays, arrays, Shows, Relievable, counts, Eased}
+use Rattle.schedule.specs.declared.running.Totals.{Totals}
+use Rattle.schedule.specs.declared.driving.Drove.{Drove}
+use Rattle.schedule.specs.Running.{begun, hasGrown}
+use Rattle.schedule.specs.Run as run
+use Rattle.schedule.specs.Drive as drive
+use Rattle.schedule.specs.Lent.{countedBy, countBy, Playable, Relieved, BytesIn, RoundsIn}
+
+-- t with other capacities
+abbrev pub withCapacity : List ℕ → Parts → Parts
+withCapacity capacity t = parts (t .registers) (t .positions) (t .conditions) (t .moves) capacity (t .oldest) (t .held) (t .closed)
+
+abbrev pub seen : Fixed → Parts → Arrays
+seen f t = arrays (f .code) (f .first) (f .sender) (f .receiver) (t .positions) (t .conditions) (t .capacity) (t .oldest) (t .held) (t .closed)
+
+pub shows : (n : Network) (accepted : ℕ) {f : Fixed} {t : Parts} → Full t → Lent n f → Shows (seen f t) (laneOf n accepted t)
+shows n accepted full lent =
+    shown n accepted full (record { code = lent .code; first = lent .first; sender = lent .sender; receiver = lent .receiver; channels = refl })
+
+pub relievable : {n : Network} {used : ℕ} (accepted : ℕ) {f : Fixed} {t : Parts} → Lent n f → used ≡ n .processes → Full t → soundOf (laneOf n accepted t) ≡ true → Relievable used (seen f t)
+relievable {n} {used} accepted {f} {t} lent all full sound =
+    record {
+      long = record { condition = full .sixteen .condition; thirtyTwo = full .thirtyTwo };
+      lane = laneOf n accepted t;
+      shown = shows n accepted full lent;
+      sound = sound;
+      count = all;
+    }
+
+-- ---- the count of accepted calls
+pub counted-some : (k accepted : ℕ) → (k ≡ 0 → ⊥) → counted accepted ≡ countedBy k accepted
+counted-some zero accepted n = absurd (n refl)
+counted-some (suc k) accepted n = refl
+
+counts-by : (a : Told) (l : Lane) → counts a l ≡ countBy (cond (hasGrown a) 1 0) l
+counts-by (enlarged n c) l = refl
+counts-by (refused k) l = refl
+
+-- ---- a relief with room for any ring
+pub eased-is : {used : ℕ} {v : Arrays} {r : ReliefAnswer} {capacity′ ring′ : List ℕ} → Eased used v (replicate 16 0) r capacity′ ring′ → Relieved used v r (cond (hasGrown (told r)) 1 0) capacity′
+eased-is {used} {v} {r} {capacity′} e =
+    record {
+      thirtyTwo = e .thirtyTwo;
+      leaves =
+          λ l shows sound all.
+          let q = e .leaves l shows sound all in
+          let l′ : Lane = putChannels (channelsOf capacity′ (v .oldest) (v .held) (v .closed)) l in
+          (ap (λ (x : Relief). x .answer) q, sym (counts-by (told r) l′) ∙ ap (λ (x : Relief). x .lane) q);
+    }
+
+-- ---- a lane by value, taken apart
+module _ {l : Lane} {t : Parts} {cells : List ℤ} (same : laneOf (l .network) (l .accepted) t ≡ l) (sound : soundOf l ≡ true) where
+  pub playable : Full t → length cells ≡ 8192 → Playable (l .network .processes) (fixedOf (l .network)) t cells
+  playable full long =
+      record {
+        network = l .network;
+        lent = lent-of (l .network);
+        full = full;
+        sound = sound-counted (l .network) t (l .accepted) 0 (rw same sound);
+        all = refl;
+        long = long;
+      }
+
+  pub bytes-done : {bytes : List ℕ} {r : Totals} {t′ : Parts} {cells′ : List ℤ} → BytesIn bytes (l .network .processes) (fixedOf (l .network)) (l .accepted) t cells r t′ cells′
+      → run.result (run.ran (r .moved) (r .enlarged)) (world (laneOf (l .network) (r .accepted) t′) cells′) ≡ run.done (run.bytesRun bytes (begun (world l cells)))
+  bytes-done {bytes} d =
+      ap run.done (d .leaves (l .network) (lent-of (l .network)) refl (rw same sound)) ∙ ap (λ (x : Lane). run.done (run.bytesRun bytes (begun (world x cells)))) same
+
+  pub rounds-done : {most : ℕ} {r : Drove} {t′ : Parts} {cells′ : List ℤ} → RoundsIn most (l .network .processes) (fixedOf (l .network)) (l .accepted) t cells r t′ cells′
+      → drive.result (drive.drove (drive.endOf (r .end)) (r .picks) (r .enlarged)) (world (laneOf (l .network) (r .accepted) t′) cells′) ≡ drive.done (l .network .processes) (drive.rounds most 0 (begun (world l cells)))
+  rounds-done {most} d =
+      d .leaves (l .network) (lent-of (l .network)) refl (rw same sound) ∙ ap (λ (x : Lane). drive.done (l .network .processes) (drive.rounds most 0 (begun (world x cells)))) same
