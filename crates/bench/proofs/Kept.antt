@@ -12,8 +12,8 @@ use Rattle.base.proofs.Conjunction.{neither}
 use Rattle.base.specs.Tests.{firstBad, isGood}
 use Rattle.network.specs.declared.Network.{Network}
 use Rattle.lane.proofs.SoundLaws.{at-each}
-use Rattle.schedule.specs.Run as run
-use Rattle.schedule.specs.Run.{names}
+use Rattle.runs.specs.Run as run
+use Rattle.runs.specs.Run.{names}
 use Rattle.bench_rules.specs.Input.{records}
 use Rattle.bench.specs.Bench.{fromOutside, inputWrong, picksWrong}
 

@@ -10,7 +10,7 @@ use Rattle.base.specs.Tests.{firstBad, isGood}
 use Rattle.network.specs.declared.Network.{Network}
 use Rattle.network.specs.Rules.{senderOf, outside}
 use Rattle.lane_file.specs.Read as file
-use Rattle.schedule.specs.Run.{named}
+use Rattle.runs.specs.Run.{named}
 use Rattle.listing.specs.Text.{text}
 use Rattle.listing.specs.Written.{written}
 use Rattle.bench_rules.specs.Input.{records, channelAt}

@@ -26,7 +26,7 @@ fn play(net: Network, input: &[u8], picks: &[u8], listing: &mut [u8]) -> BenchAn
     if tests::input_wrong(net, input, picks) {
         return BenchAnswer::Refused(Refusal::Input);
     }
-    if !schedule::all_named(picks, net.processes as u8) {
+    if !runs::all_named(picks, net.processes as u8) {
         return BenchAnswer::Refused(Refusal::Absent);
     }
     BenchAnswer::Listed(playing::list(net, input, picks, listing))

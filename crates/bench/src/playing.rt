@@ -7,7 +7,7 @@ ghost use Prim.Native.Nat.{ℕ, _≤_, _<_};
 ghost use lib.ListN.{length, getD};
 ghost use Rattle.network.specs.Rules.{passes};
 ghost use Rattle.lane_parts.specs.Parts.{parts, fixed};
-ghost use Rattle.schedule.specs.Run.{names};
+ghost use Rattle.runs.specs.Run.{names};
 ghost use Rattle.outer_ends.specs.Outer.{Outer};
 ghost use Rattle.listing.specs.Text.{text};
 ghost use Rattle.listing.specs.Written.{written};

@@ -12,7 +12,7 @@ use Rattle.process.specs.declared.Condition.the-variants.{Live, Stopped, Faulte
 use Rattle.lane.specs.declared.Lane.{Lane}
 use Rattle.lane.specs.State.{World, world, channelOf, standingOf, freshOf}
 use Rattle.lane.specs.Pick.{pickIn}
-use Rattle.relief.specs.Waits.{Wait, free, forMessage, forRoom, waitOf}
+use Rattle.waits.specs.Waits.{Wait, free, forMessage, forRoom, waitOf}
 use Rattle.relief.specs.Relief as relief
 use Rattle.schedule.specs.Running.{begun, reliefIn, relieves}
 use Rattle.listing.specs.declared.Status.{Status}

@@ -22,13 +22,13 @@ use Rattle.lane_parts.proofs.Zip.{channel-at}
 use Rattle.lent_picks.specs.Finish.{Picking, Picked}
 use Rattle.relief.specs.declared.ReliefAnswer.{ReliefAnswer}
 use Rattle.relief.specs.Relief.{Told, enlarged, refused, told, relieveOf}
-use Rattle.relief.specs.Lent.{Relievable}
+use Rattle.waits.specs.Lent.{Relievable}
 use Rattle.relief.proofs.Enlarged.{relief-kept}
 use Rattle.schedule.specs.Running.{hasGrown}
-use Rattle.schedule.specs.Run.{names}
 use Rattle.schedule.specs.Lent.{countedBy, Relieved}
 use Rattle.schedule.proofs.Lent.{withCapacity, seen, shows, relievable}
-use Rattle.schedule.proofs.Stretches.{one-of}
+use Rattle.runs.specs.Run.{names}
+use Rattle.runs.proofs.Stretches.{one-of}
 use Rattle.listing.specs.Text.{Line, text}
 use Rattle.listing.specs.Written.{written}
 use Rattle.listing.proofs.Laws.{written-length, written-none}

@@ -10,7 +10,7 @@ use Rattle.lane.specs.State.{world}
 use Rattle.lane_parts.specs.Parts.{laneOf, Parts, parts, Fixed}
 use Rattle.lane_parts.specs.Parts as arrays
 use Rattle.lane_parts.proofs.Lanes.{shown}
-use Rattle.schedule.specs.Run.{names}
+use Rattle.runs.specs.Run.{names}
 use Rattle.bench_rules.specs.Feeding.{feeds}
 use Rattle.bench_rules.specs.Playing.{picksIn, playsOne}
 use Rattle.bench_feeds.specs.Feeds.{inlets, Feeds, Feeding, FedOn, Fed}

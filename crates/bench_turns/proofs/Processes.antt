@@ -12,11 +12,11 @@ use Rattle.lane.specs.declared.Lane.{Lane}
 use Rattle.lane.specs.State.{standingOf}
 use Rattle.lane.proofs.SoundLaws.{sound-says}
 use Rattle.lane_parts.specs.Parts.{conditionOf}
-use Rattle.relief.specs.declared.Wait.{Wait}
-use Rattle.relief.specs.Waits.{waitsAt}
-use Rattle.relief.specs.Parts.{waitAs}
-use Rattle.relief.specs.Lent.{Arrays, Looked}
-use Rattle.relief.proofs.WaitLaws.{waiting-so}
+use Rattle.waits.specs.declared.Wait.{Wait}
+use Rattle.waits.specs.Waits.{waitsAt}
+use Rattle.waits.specs.Parts.{waitAs}
+use Rattle.waits.specs.Lent.{Arrays, Looked}
+use Rattle.waits.proofs.WaitLaws.{waiting-so}
 use Rattle.listing.specs.declared.Status.{Status}
 use Rattle.listing.specs.Text.{proc, text, lineText}
 use Rattle.listing.specs.Written.{written}

@@ -8,7 +8,7 @@ use lib.ListN.{length, getD}
 use Rattle.lane.specs.declared.Lane.{Lane}
 use Rattle.lane.specs.State.{standingOf}
 use Rattle.lane.specs.Sound.{soundOf}
-use Rattle.relief.specs.Lent.{Arrays, Shows, Long}
+use Rattle.waits.specs.Lent.{Arrays, Shows, Long}
 use Rattle.listing.specs.Text.{text}
 use Rattle.listing.specs.Written.{written}
 use Rattle.bench_rules.specs.Playing.{procLines}

@@ -14,7 +14,7 @@ use Rattle.lane.specs.Sound.{soundOf}
 use Rattle.lane_parts.specs.Parts.{laneOf, Parts, Fixed, Lent}
 use Rattle.lane_parts.specs.Parts as parts
 use Rattle.relief.specs.Relief.{Told, enlarged, refused}
-use Rattle.schedule.specs.Run.{names}
+use Rattle.runs.specs.Run.{names}
 use Rattle.listing.specs.Text.{Line, grow, text}
 use Rattle.listing.specs.Written.{written}
 use Rattle.bench_rules.specs.Printed.{Printed}

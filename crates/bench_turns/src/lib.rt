@@ -2,16 +2,16 @@
 // arrays; nothing of it is copied. Public for the bench, which has shown that the lane is sound and that there is room.
 use listing::Status;
 use relief::ReliefAnswer;
-use relief::Waiting;
+use waits::Waiting;
 ghost use mathlib.Core.Path.{_≡_};
 ghost use mathlib.Core.Bool.{true};
 ghost use Prim.Native.Nat.{ℕ, _+_, _≤_, _<_};
 ghost use lib.ListN.{length, getD};
 ghost use Rattle.lane_parts.specs.Parts.{conditionOf, parts, fixed};
-ghost use Rattle.relief.specs.Parts.{waitAs};
+ghost use Rattle.waits.specs.Parts.{waitAs};
 ghost use Rattle.relief.specs.Relief.{told, enlarged};
-ghost use Rattle.relief.specs.Lent.{arrays};
-ghost use Rattle.schedule.specs.Run.{names};
+ghost use Rattle.waits.specs.Lent.{arrays};
+ghost use Rattle.runs.specs.Run.{names};
 ghost use Rattle.outer_ends.specs.Outer.{Outer};
 ghost use Rattle.listing.specs.Text.{text};
 ghost use Rattle.listing.specs.Written.{written};
@@ -215,7 +215,7 @@ pub fn print_processes(
     let mut place = at;
     let mut p: usize = 0;
     while p < used {
-        let wait = relief::wait_at(
+        let wait = waits::wait_at(
             p,
             code,
             first,

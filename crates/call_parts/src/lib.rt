@@ -53,7 +53,7 @@ pub fn receiver_ended(lane: Lane, c: usize) -> bool
     let receiver = lane.network.receiver;
     let e = receiver[c] as usize;
     let processes = lane.processes;
-    lane_sound::ended_if(e, processes[e % 16])
+    sound_parts::ended_if(e, processes[e % 16])
 }
 
 // One more accepted call.

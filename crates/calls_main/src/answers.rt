@@ -3,10 +3,10 @@ use call_prints::shows::print;
 use call_prints::shows::print_number;
 use call_prints::shows::print_refusal;
 use call_prints::words;
+use drives::DriveAnswer;
+use drives::End;
 use relief::ReliefAnswer;
-use schedule::DriveAnswer;
-use schedule::End;
-use schedule::RunAnswer;
+use runs::RunAnswer;
 
 pub fn print_relieved(answer: ReliefAnswer) {
     match answer {

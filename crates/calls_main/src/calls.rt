@@ -63,14 +63,14 @@ fn run(lane: Lane, cells: &mut [i32], line: &[u8]) -> Lane {
         return lane;
     }
     let start = 0;
-    let ran = schedule::run(lane, cells, &bytes[start..n]);
+    let ran = runs::run(lane, cells, &bytes[start..n]);
     let answer = ran.answer;
     print_ran(answer);
     ran.lane
 }
 
 fn drive(lane: Lane, cells: &mut [i32], picks: u64) -> Lane {
-    let driven = schedule::drive(lane, cells, picks);
+    let driven = drives::drive(lane, cells, picks);
     let answer = driven.answer;
     print_driven(answer);
     driven.lane

@@ -26,8 +26,8 @@ use Rattle.lane.specs.Sound.{channelSound, positions, channelsSound, unusedStan
 use Rattle.lane.specs.Pick.{putBack, stepAt, pickIn}
 use Rattle.lane.specs.Calls as lane
 use Rattle.lane.specs.Calls.{refuse, noProcess, pickOf}
-use Rattle.relief.specs.Waits.{waitOf, pointing, fullWait, waitsAt}
-use Rattle.relief.specs.Rings.{iter, closesFrom, chain, firstFrom, search}
+use Rattle.waits.specs.Waits.{waitOf, pointing, fullWait, waitsAt}
+use Rattle.rings.specs.Rings.{iter, closesFrom, chain, firstFrom, search}
 use Rattle.relief.specs.Relief.{foundIn, settled, relieveOf}
 use Rattle.block_check.specs.Crc.{crc}
 use Rattle.examples.specs.Written.{codeBytes, networkOf, Board, laneOf, isWhole}

@@ -19,9 +19,3 @@ pub mod Lawful
 pub mod Theorem
 pub mod Files
 pub mod Whole
-pub mod Traces
-pub mod Tested
-pub mod Computed
-pub mod Witness
-pub mod WitnessTwo
-pub mod Former

@@ -89,7 +89,7 @@ abbrev pub unpicked : World → Progress
 unpicked w = record { world = w; moved = 0; last = Ended; channel = 0 }
 
 -- ---- rounds of picks: the picks in turn, and again after a round with a move, as often as may follow; how many more might have followed. A step on the
--- way to the driver, whose own definition (`schedule/specs/Drive`) does not cite it
+-- way to the driver, whose own definition (`drives/specs/Drive`) does not cite it
 pub record Rounds : Type 0 where
   pub progress : Progress
   pub left : ℕ

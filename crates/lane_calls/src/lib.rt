@@ -27,9 +27,9 @@ fn pick_there(lane: Lane, cells: &mut [i32], p: usize) -> Picked
     let condition = standing.condition;
     let at = lane_parts::place(first[p], standing.position);
     let i = network::fetch(&lane.network.code, at);
-    let turn = lent_picks::pick(lane, cells, p);
+    let turn = lent_rounds::pick(lane, cells, p);
     let l = turn.lane;
-    let ended = lane_sound::is_ended(condition);
+    let ended = sound_parts::is_ended(condition);
     let answer = call_parts::answer_to(turn.moved, ended, i.op, lane_parts::channel_of(i));
     Picked { lane: l, answer }
 }

@@ -1,5 +1,5 @@
 -- The hypotheses of the round trip are met: by document 01's sample lane, "One process, channel 0 in, 1 out, capacities 1", whose file has two blocks.
--- Two more files, of other networks, stand in kahn/proofs/Witness.
+-- Two more files, of other networks, stand in kahn_witnesses/proofs/Witness.
 -- Assumes nothing.
 use mathlib.Core.Path.{_≡_, refl, ap}
 use mathlib.Core.Bool.{true}

@@ -1,14 +1,10 @@
 // The lane at the start, and whether a lane is sound.
-mod soundness;
-
 use base::Verdict;
 use lane::Lane;
 use lane::Standing;
 use network::Network;
 use process::Channel;
 use process::Condition;
-pub use soundness::ended_if;
-pub use soundness::is_ended;
 ghost use mathlib.Core.Path.{_≡_};
 ghost use mathlib.Core.Bool.{false, _&&_};
 ghost use Prim.Native.Nat.{_≤_};
@@ -70,13 +66,13 @@ fn rest_zero(
     requires { ⌜ used ≤ 16 ⌝ }
     ensures { λ r. ⌜ ((lane : Lane) → lane .registers ≡ registers → lane .processes ≡ processes → lane .channels ≡ channels → lane .network .processes ≡ used → lane .network .channels ≡ inside → r ≡ (unusedStandings lane && unusedRegisters lane && unusedChannels lane)) ⌝ }
 {
-    let Verdict::Good = soundness::unused_standings(processes, used) else {
+    let Verdict::Good = sound_parts::unused_standings(processes, used) else {
         return false;
     };
-    let Verdict::Good = soundness::unused_registers(&registers, used) else {
+    let Verdict::Good = sound_parts::unused_registers(&registers, used) else {
         return false;
     };
-    let Verdict::Good = soundness::unused_channels(channels, inside) else {
+    let Verdict::Good = sound_parts::unused_channels(channels, inside) else {
         return false;
     };
     true
@@ -96,15 +92,15 @@ pub fn sound(lane: Lane) -> bool
     let processes = lane.processes;
     let channels = lane.channels;
     let mut marks = [0u16; 256];
-    if !soundness::standings(&count, processes, used, &mut marks) {
+    if !sound_parts::standings(&count, processes, used, &mut marks) {
         return false;
     }
-    if !soundness::limits(channels, inside) {
+    if !sound_parts::limits(channels, inside) {
         return false;
     }
     let sender = lane.network.sender;
     let receiver = lane.network.receiver;
-    if !soundness::ends(&sender, &receiver, &marks, channels, inside) {
+    if !sound_parts::ends(&sender, &receiver, &marks, channels, inside) {
         return false;
     }
     if used == 16 {

@@ -1,4 +1,2 @@
 pub mod Drop
 pub mod One
-pub mod Running
-pub mod Single

@@ -29,8 +29,8 @@ use Rattle.lent_picks.specs.Finish.{ends, Picking, Picked}
 use Rattle.lent_picks.proofs.Drop.{drop-is}
 use Rattle.lane_parts.proofs.Lanes.{lane-shaped, stands}
 use Rattle.lane_parts.proofs.Next.{Next, next-of, instruction-is}
-use Rattle.lent_steps.specs.declared.Did.{Did}
-use Rattle.lent_steps.specs.declared.Did.the-variants.{On, To, Wait, Stop, Fault}
+use Rattle.register_steps.specs.declared.Did.{Did}
+use Rattle.register_steps.specs.declared.Did.the-variants.{On, To, Wait, Stop, Fault}
 use Rattle.lane_parts.specs.Parts.{conditionOf, standing, channel, standingsOf, laneWith, laneOf, Parts, Full, Fixed, Lent, Sixteen, ThirtyTwo}
 use Rattle.lent_steps.specs.Steps.{finish, At, Turned, Ready, Gone}
 use Rattle.lane_parts.proofs.Zip.{standing-at, channel-at, set-onward, set-ended}

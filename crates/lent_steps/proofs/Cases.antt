@@ -22,9 +22,10 @@ use Rattle.process.proofs.Fields.{register-in, own-low, second, third, beyond}
 use Rattle.lane.specs.declared.Lane.{Lane}
 use Rattle.lane.specs.State.{world, processOf, endedAt, channelOf}
 use Rattle.lane.specs.Pick.{channelIn}
-use Rattle.lent_steps.specs.declared.Did.{Did}
-use Rattle.lent_steps.specs.declared.Did.the-variants.{On, To, Wait, Stop, Fault}
-use Rattle.lent_steps.specs.Steps.{didBy, fileBy, withState, At, Turned, Ready}
+use Rattle.register_steps.specs.declared.Did.{Did}
+use Rattle.register_steps.specs.declared.Did.the-variants.{On, To, Wait, Stop, Fault}
+use Rattle.register_steps.specs.Divides.{didBy, fileBy}
+use Rattle.lent_steps.specs.Steps.{withState, At, Turned, Ready}
 use Rattle.lent_steps.proofs.Turns.{did-assign, did-on, did-send, did-jump, did-wait-empty, did-wait-full, did-stop, did-fault}
 
 -- ---- the fields of an instruction

@@ -20,8 +20,8 @@ use Rattle.lane.specs.declared.Lane.{Lane}
 use Rattle.lane.specs.State.{World, world, cellAt, noStanding, processOf, putProcess, endedAt, channelOf, putChannel}
 use Rattle.lane.specs.Pick.{channelIn, settle, putBack, stepAt, stepFor, pickIn, hasMoved}
 use Rattle.lane.proofs.Windows.{put-one, put-eight}
-use Rattle.lent_steps.specs.declared.Did.{Did}
-use Rattle.lent_steps.specs.declared.Did.the-variants.{On, To, Wait, Stop, Fault}
+use Rattle.register_steps.specs.declared.Did.{Did}
+use Rattle.register_steps.specs.declared.Did.the-variants.{On, To, Wait, Stop, Fault}
 use Rattle.lent_steps.specs.Steps.{finish, movedBy, withState, At, Turned}
 
 -- what process p, live at instruction i, does

@@ -8,7 +8,6 @@ use lib.ListN.{length, getD, set}
 use lib.IntN.{ℤ}
 use Rattle.network.specs.declared.Instruction.{Instruction}
 use Rattle.network.specs.Code.{fieldsRight}
-use Rattle.arithmetic.specs.Quotient.{Quotient, value, faults}
 use Rattle.process.specs.declared.Condition.{Condition}
 use Rattle.process.specs.declared.Condition.the-variants.{Live, Stopped, Faulted}
 use Rattle.process.specs.declared.Channel.{Channel}
@@ -16,8 +15,8 @@ use Rattle.process.specs.Want.{counted}
 use Rattle.lane.specs.declared.Lane.{Lane}
 use Rattle.lane.specs.State.{World, world, standingOf, isEnded, endedAt, putChannels}
 use Rattle.lane.specs.Pick.{channelIn, dropFrom, instructionFor, stepFor, pickIn, hasMoved}
-use Rattle.lent_steps.specs.declared.Did.{Did}
-use Rattle.lent_steps.specs.declared.Did.the-variants.{On, To, Wait, Stop, Fault}
+use Rattle.register_steps.specs.declared.Did.{Did}
+use Rattle.register_steps.specs.declared.Did.the-variants.{On, To, Wait, Stop, Fault}
 use Rattle.lane_parts.specs.Parts.{conditionOf, laneWith, ThirtyTwo}
 
 -- process p, at this position and in this condition, has moved once more
@@ -50,15 +49,6 @@ movedBy (To c) = true
 movedBy Wait = false
 movedBy Stop = true
 movedBy Fault = true
-
--- a quotient or a remainder
-abbrev pub didBy : Quotient → Did
-didBy (value v) = On
-didBy faults = Fault
-
-abbrev pub fileBy : Quotient → ℕ → List ℤ → List ℤ
-fileBy (value v) k file = set file k v
-fileBy faults k file = file
 
 -- ---- an instruction
 -- the lane l with these registers and channels

@@ -1,167 +1,23 @@
-// The instructions on lent arrays: one function for each opcode that does more than go on or end, and the match that picks it. Each stores what it
-// changes, and answers what is left to do.
-use arithmetic::Divided;
+// The instructions on lent arrays: those that touch a channel, and the match that picks by the opcode. Each stores what it changes, and answers what is
+// left to do.
 use lane_parts::channel_at;
 use lane_parts::channel_of;
 use lane_parts::ended_at;
 use lane_parts::slot;
 use network::Instruction;
+use register_steps::Did;
+use register_steps::assign;
+use register_steps::register;
 ghost use mathlib.Core.Path.{_≡_};
-ghost use mathlib.Core.Bool.{cond};
-ghost use Prim.Native.Nat.{ℕ, _+_, _≤_, _<_};
+ghost use Prim.Native.Nat.{ℕ, _≤_, _<_};
 ghost use mathlib.Core.List.{List};
-ghost use lib.IntN.{ℤ, pos};
-ghost use lib.ListN.{length, getD, set};
+ghost use lib.IntN.{ℤ};
+ghost use lib.ListN.{length, getD};
 ghost use Rattle.network.specs.Rules.{receiverOf};
-ghost use Rattle.arithmetic.specs.Wrap.{sumOf, differenceOf, productOf};
-ghost use Rattle.arithmetic.specs.Quotient.{told, quotientOf, remainderOf};
-ghost use Rattle.process.specs.Want.{signed16, isNull, isNegative};
 ghost use Rattle.lane.specs.State.{endedAt};
 ghost use Rattle.lane.specs.Pick.{channelIn};
 ghost use Rattle.lane_parts.specs.Parts.{channelsOf, ThirtyTwo};
-ghost use Rattle.lent_steps.specs.Steps.{didBy, fileBy, Means, Ready, Gone};
-
-// What an instruction did, and so what is left to do: on to the next one; to a target; nothing, it waits; an end, stopped or faulted.
-pub enum Did {
-    On,
-    To(u8),
-    Wait,
-    Stop,
-    Fault,
-}
-
-// ---- registers
-// Register r of the process whose registers lie from a base on.
-fn register(file: &[i32; 128], base: usize, r: u8) -> i32
-    requires { ⌜ (base ≤ 120) × (r < 8) ⌝ }
-    ensures { λ v. ⌜ v ≡ getD (now (file .entry)) (base + r) (pos 0) ⌝ }
-{
-    let k = base + (r as usize);
-    file[k]
-}
-
-// Register r becomes v.
-fn assign(file: &mut [i32; 128], base: usize, r: u8, v: i32)
-    requires { ⌜ (base ≤ 120) × (r < 8) ⌝ }
-    ensures { λ u. ⌜ now (file .exit) ≡ set (now (file .entry)) (base + r) v ⌝ }
-{
-    let k = base + (r as usize);
-    file[k] = v;
-}
-
-// The signed 16-bit number in b, c.
-fn signed16(b: u8, c: u8) -> i32
-    ensures { λ r. ⌜ r ≡ signed16 b c ⌝ }
-{
-    let n = 256 * (b as u32) + (c as u32);
-    if n < 32768 {
-        n as i32
-    } else {
-        (n as i32) - 65536
-    }
-}
-
-// ---- the opcodes 0 to 13
-fn set(i: Instruction, file: &mut [i32; 128], base: usize) -> Did
-    requires { ⌜ (base ≤ 120) × (i .a < 8) ⌝ }
-    ensures { λ r. ⌜ (r ≡ Did.On) × (now (file .exit) ≡ set (now (file .entry)) (base + i .a) (signed16 (i .b) (i .c))) ⌝ }
-{
-    assign(file, base, i.a, signed16(i.b, i.c));
-    Did::On
-}
-
-fn copy(i: Instruction, file: &mut [i32; 128], base: usize) -> Did
-    requires { ⌜ (base ≤ 120) × (i .a < 8) × (i .b < 8) ⌝ }
-    ensures { λ r. ⌜ (r ≡ Did.On) × (now (file .exit) ≡ set (now (file .entry)) (base + i .a) (getD (now (file .entry)) (base + i .b) (pos 0))) ⌝ }
-{
-    let x = register(file, base, i.b);
-    assign(file, base, i.a, x);
-    Did::On
-}
-
-fn add(i: Instruction, file: &mut [i32; 128], base: usize) -> Did
-    requires { ⌜ (base ≤ 120) × (i .a < 8) × (i .b < 8) × (i .c < 8) ⌝ }
-    ensures { λ r. ⌜ (r ≡ Did.On) × (now (file .exit) ≡ set (now (file .entry)) (base + i .a) (sumOf (getD (now (file .entry)) (base + i .b) (pos 0)) (getD (now (file .entry)) (base + i .c) (pos 0)))) ⌝ }
-{
-    let x = register(file, base, i.b);
-    let y = register(file, base, i.c);
-    assign(file, base, i.a, arithmetic::sum(x, y));
-    Did::On
-}
-
-fn subtract(i: Instruction, file: &mut [i32; 128], base: usize) -> Did
-    requires { ⌜ (base ≤ 120) × (i .a < 8) × (i .b < 8) × (i .c < 8) ⌝ }
-    ensures { λ r. ⌜ (r ≡ Did.On) × (now (file .exit) ≡ set (now (file .entry)) (base + i .a) (differenceOf (getD (now (file .entry)) (base + i .b) (pos 0)) (getD (now (file .entry)) (base + i .c) (pos 0)))) ⌝ }
-{
-    let x = register(file, base, i.b);
-    let y = register(file, base, i.c);
-    assign(file, base, i.a, arithmetic::difference(x, y));
-    Did::On
-}
-
-fn multiply(i: Instruction, file: &mut [i32; 128], base: usize) -> Did
-    requires { ⌜ (base ≤ 120) × (i .a < 8) × (i .b < 8) × (i .c < 8) ⌝ }
-    ensures { λ r. ⌜ (r ≡ Did.On) × (now (file .exit) ≡ set (now (file .entry)) (base + i .a) (productOf (getD (now (file .entry)) (base + i .b) (pos 0)) (getD (now (file .entry)) (base + i .c) (pos 0)))) ⌝ }
-{
-    let x = register(file, base, i.b);
-    let y = register(file, base, i.c);
-    assign(file, base, i.a, arithmetic::product(x, y));
-    Did::On
-}
-
-// A quotient or a remainder into register a; a zero divisor faults.
-fn put_divided(d: Divided, a: u8, file: &mut [i32; 128], base: usize) -> Did
-    requires { ⌜ (base ≤ 120) × (a < 8) ⌝ }
-    ensures { λ r. ⌜ (r ≡ didBy (told d)) × (now (file .exit) ≡ fileBy (told d) (base + a) (now (file .entry))) ⌝ }
-{
-    match d {
-        Divided::By(v) => {
-            assign(file, base, a, v);
-            Did::On
-        }
-        Divided::Zero => Did::Fault,
-    }
-}
-
-fn divide(i: Instruction, file: &mut [i32; 128], base: usize) -> Did
-    requires { ⌜ (base ≤ 120) × (i .a < 8) × (i .b < 8) × (i .c < 8) ⌝ }
-    ensures { λ r. ⌜ (r ≡ didBy (quotientOf (getD (now (file .entry)) (base + i .b) (pos 0)) (getD (now (file .entry)) (base + i .c) (pos 0)))) × (now (file .exit) ≡ fileBy (quotientOf (getD (now (file .entry)) (base + i .b) (pos 0)) (getD (now (file .entry)) (base + i .c) (pos 0))) (base + i .a) (now (file .entry))) ⌝ }
-{
-    let x = register(file, base, i.b);
-    let y = register(file, base, i.c);
-    put_divided(arithmetic::quotient(x, y), i.a, file, base)
-}
-
-fn remainder(i: Instruction, file: &mut [i32; 128], base: usize) -> Did
-    requires { ⌜ (base ≤ 120) × (i .a < 8) × (i .b < 8) × (i .c < 8) ⌝ }
-    ensures { λ r. ⌜ (r ≡ didBy (remainderOf (getD (now (file .entry)) (base + i .b) (pos 0)) (getD (now (file .entry)) (base + i .c) (pos 0)))) × (now (file .exit) ≡ fileBy (remainderOf (getD (now (file .entry)) (base + i .b) (pos 0)) (getD (now (file .entry)) (base + i .c) (pos 0))) (base + i .a) (now (file .entry))) ⌝ }
-{
-    let x = register(file, base, i.b);
-    let y = register(file, base, i.c);
-    put_divided(arithmetic::remainder(x, y), i.a, file, base)
-}
-
-fn jump_zero(i: Instruction, file: &[i32; 128], base: usize) -> Did
-    requires { ⌜ (base ≤ 120) × (i .a < 8) ⌝ }
-    ensures { λ r. ⌜ r ≡ cond (isNull (getD (now (file .entry)) (base + i .a) (pos 0))) (Did.To (i .c)) Did.On ⌝ }
-{
-    if register(file, base, i.a) == 0 {
-        Did::To(i.c)
-    } else {
-        Did::On
-    }
-}
-
-fn jump_negative(i: Instruction, file: &[i32; 128], base: usize) -> Did
-    requires { ⌜ (base ≤ 120) × (i .a < 8) ⌝ }
-    ensures { λ r. ⌜ r ≡ cond (isNegative (getD (now (file .entry)) (base + i .a) (pos 0))) (Did.To (i .c)) Did.On ⌝ }
-{
-    if register(file, base, i.a) < 0 {
-        Did::To(i.c)
-    } else {
-        Did::On
-    }
-}
+ghost use Rattle.lent_steps.specs.Steps.{Means, Ready, Gone};
 
 // The oldest message; empty and closed is the end, empty and open waits.
 fn receive(
@@ -266,16 +122,16 @@ pub fn step(
     let op = i.op;
     match op {
         0 => Did::Stop,
-        1 => set(i, file, base),
-        2 => copy(i, file, base),
-        3 => add(i, file, base),
-        4 => subtract(i, file, base),
-        5 => multiply(i, file, base),
-        6 => divide(i, file, base),
-        7 => remainder(i, file, base),
+        1 => register_steps::set(i, file, base),
+        2 => register_steps::copy(i, file, base),
+        3 => register_steps::add(i, file, base),
+        4 => register_steps::subtract(i, file, base),
+        5 => register_steps::multiply(i, file, base),
+        6 => register_steps::divide(i, file, base),
+        7 => register_steps::remainder(i, file, base),
         8 => Did::To(i.c),
-        9 => jump_zero(i, file, base),
-        10 => jump_negative(i, file, base),
+        9 => register_steps::jump_zero(i, file, base),
+        10 => register_steps::jump_negative(i, file, base),
         11 => receive(i, file, base, capacity, oldest, held, closed, cells),
         12 => {
             let gone = ended_at(receiver[channel_of(i)], conditions);

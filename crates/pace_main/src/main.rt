@@ -27,10 +27,10 @@ fn round_robin(processes: usize) -> [u8; 4096] {
 // The picks, as a run or as a drive, which picks in turn by itself.
 fn lap(lane: Lane, cells: &mut [i32], picks: &[u8], drives: bool) -> Lane {
     if drives {
-        let driven = schedule::drive(lane, cells, 4096);
+        let driven = drives::drive(lane, cells, 4096);
         return driven.lane;
     }
-    let ran = schedule::run(lane, cells, picks);
+    let ran = runs::run(lane, cells, picks);
     ran.lane
 }
 

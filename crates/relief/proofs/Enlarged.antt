@@ -22,11 +22,11 @@ use Rattle.lane.proofs.Shape.{put-channel-shaped, count-shaped}
 use Rattle.lane.proofs.SoundLaws.{ChannelSound, sound-says, says-sound}
 use Rattle.lane.proofs.Keeps.{put-channel-sound, count-sound}
 use Rattle.lane.proofs.CallLaws.{Preserves}
-use Rattle.relief.specs.Waits.{waitIn, waitOf, roomIn, channelWaited, pointing, fullWait, waitsAt}
-use Rattle.relief.specs.Rings.{ringOf, least, onRingBelow, firstFrom, Found, noRing, ceiling, found, search}
+use Rattle.waits.specs.Waits.{waitIn, waitOf, roomIn, channelWaited, pointing, fullWait, waitsAt}
+use Rattle.rings.specs.Rings.{ringOf, least, onRingBelow, firstFrom, Found, noRing, ceiling, found, search}
 use Rattle.relief.specs.Relief.{Relief, relief, refused, enlarged, foundIn, grown, settled, relieveOf}
-use Rattle.relief.proofs.Least.{least-below}
-use Rattle.relief.proofs.First.{first-holds}
+use Rattle.rings.proofs.Least.{least-below}
+use Rattle.rings.proofs.First.{first-holds}
 
 -- ---- the search
 -- the channel found is the one of some full wait below 256

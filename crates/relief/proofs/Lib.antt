@@ -1,12 +1,4 @@
-pub mod Least
-pub mod First
-pub mod Walk
 pub mod Front
-pub mod WaitLaws
 pub mod Enlarged
-pub mod Pigeonhole
-pub mod Circles
-pub mod Inside
-pub mod Rule
 pub mod Relieving
 pub mod Arrays

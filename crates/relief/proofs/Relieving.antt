@@ -21,13 +21,13 @@ use Rattle.lane.specs.Sound.{soundOf}
 use Rattle.lane.specs.Pick.{channelIn, instructionFor, stepFor}
 use Rattle.lane.specs.Calls as calls
 use Rattle.lane.proofs.SoundLaws.{Sound, sound-says}
-use Rattle.relief.specs.Waits.{Wait, free, forMessage, forRoom, waitIn, waitOf, roomIn, pointing, fullWait, waitsAt}
-use Rattle.relief.specs.Rings.{iter, OnRing, Found, noRing, ceiling, found}
-use Rattle.relief.specs.Taken.{OnFullRing, Taken}
+use Rattle.waits.specs.Waits.{Wait, free, forMessage, forRoom, waitIn, waitOf, roomIn, pointing, fullWait, waitsAt}
+use Rattle.rings.specs.Rings.{iter, OnRing, Found, noRing, ceiling, found}
+use Rattle.rings.specs.Taken.{OnFullRing, Taken}
 use Rattle.relief.specs.Relief.{Told, enlarged, refused, NoOther, relief, foundIn, grown, settled, relieveOf}
-use Rattle.relief.proofs.Walk.{Stays}
-use Rattle.relief.proofs.WaitLaws.{wait-any}
-use Rattle.relief.proofs.Rule.{taken-short, found-exactly, none-exactly, ceiling-exactly}
+use Rattle.rings.proofs.Walk.{Stays}
+use Rattle.waits.proofs.WaitLaws.{wait-any}
+use Rattle.rings.proofs.Rule.{taken-short, found-exactly, none-exactly, ceiling-exactly}
 
 -- ---- a sound lane is as the laws of rings want it
 module _ (l : Lane) (s : Sound l) where

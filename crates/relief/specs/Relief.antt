@@ -14,8 +14,8 @@ use Rattle.lane.specs.State.{channelOf, putChannel, count}
 use Rattle.lane.specs.Sound.{soundOf}
 use Rattle.relief.specs.declared.ReliefAnswer.{ReliefAnswer}
 use Rattle.relief.specs.declared.ReliefAnswer.the-variants.{Enlarged, Refused}
-use Rattle.relief.specs.Waits.{pointing, fullWait, waitsAt}
-use Rattle.relief.specs.Rings.{Found, noRing, ceiling, found, search}
+use Rattle.waits.specs.Waits.{pointing, fullWait, waitsAt}
+use Rattle.rings.specs.Rings.{Found, noRing, ceiling, found, search}
 
 -- what relief answers: "The answer names ring and channel"; the ring's processes stand in the buffer, so its length says which they are
 pub data Told : Type 0 where

@@ -1,16 +1,13 @@
-// Relief: which processes wait for which, the ring that is relieved, and the channel that grows.
-mod graph;
-mod search;
-
+// Relief: the ring that is relieved, and the channel that grows.
 use base::Refusal;
-pub use graph::wait_at;
 use lane::Lane;
 ghost use mathlib.Core.Path.{_≡_};
 ghost use mathlib.Core.List.{_++_};
 ghost use Prim.Native.Nat.{_≤_};
 ghost use lib.ListN.{length, take, drop};
+ghost use Rattle.waits.specs.Lent.{arrays, Relievable};
 ghost use Rattle.relief.specs.Relief.{told, relief, relieveOf};
-ghost use Rattle.relief.specs.Lent.{arrays, counts, Relievable, Eased};
+ghost use Rattle.relief.specs.Lent.{counts, Eased};
 
 // A ring was found and its channel enlarged: the ring's length, whose processes stand in the lent buffer, and the channel.
 pub enum ReliefAnswer {
@@ -21,31 +18,6 @@ pub enum ReliefAnswer {
 pub struct Relieved {
     pub lane: Lane,
     pub answer: ReliefAnswer,
-}
-
-// How a process would wait if picked: not at all, for a message, or for room.
-pub enum Waiting {
-    Free,
-    Empty,
-    Full,
-}
-
-// What a process waits for: how it waits; the process that it points to, 255 for none; the capacity of the channel of a full wait, 0 for
-// none; the channel. Public for the bench.
-pub struct Wait {
-    pub waiting: Waiting,
-    pub points: u8,
-    pub full: u16,
-    pub channel: u8,
-}
-
-// What the search gives: the ring in the first places, its length, 0 where none is found, and the channel; whether a ring
-// with a full wait at 256 was passed over.
-struct Sought {
-    ring: [u8; 16],
-    length: usize,
-    channel: usize,
-    ceiling: bool,
 }
 
 // The first n processes of a ring into the front of a buffer.
@@ -61,8 +33,8 @@ fn write(buffer: &mut [u8], ring: [u8; 16], n: usize)
 }
 
 // The relief of a sound lane with these arrays: the channel of the first ring that has a full wait below 256 grows by one, and the ring's
-// processes go into the front of the lent buffer. Refused in the order 13 or 14, 15. Public for the run, the driver and the bench, which have
-// tested once that the lane is sound.
+// processes go into the front of the lent buffer. Refused in the order 13 or 14, 15. Public for `schedule`, whose callers, the run, the driver and
+// the bench, have tested once that the lane is sound.
 pub fn relieve_in(
     used: usize,
     code: &[u8; 4064],
@@ -83,7 +55,7 @@ pub fn relieve_in(
     let mut points = [255u8; 16];
     let mut full = [0u16; 16];
     let mut channel = [0u8; 16];
-    graph::waits_in(
+    waits::waits_in(
         used,
         code,
         first,
@@ -99,7 +71,7 @@ pub fn relieve_in(
         &mut full,
         &mut channel,
     );
-    let sought = search::search(&points, &full, &channel, used);
+    let sought = rings::search(&points, &full, &channel, used);
     let length = sought.length;
     let c = sought.channel;
     if length == 0 {

@@ -90,7 +90,7 @@ fn picked(record: [u8; 2048], lane: Lane) -> Lane {
     let end = start + 256 * small(record[1088]) + small(record[1089]);
     let mut cells = [0i32; 8192];
     if end <= 2048 {
-        let ran = schedule::run(lane, &mut cells, &record[start..end]);
+        let ran = runs::run(lane, &mut cells, &record[start..end]);
         return ran.lane;
     }
     lane

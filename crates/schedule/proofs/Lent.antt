@@ -9,19 +9,16 @@ use lib.ListN.{length, replicate}
 use Rattle.network.specs.declared.Network.{Network}
 use Rattle.process.specs.Want.{counted}
 use Rattle.lane.specs.declared.Lane.{Lane}
-use Rattle.lane.specs.State.{world, putChannels}
+use Rattle.lane.specs.State.{putChannels}
 use Rattle.lane.specs.Sound.{soundOf}
 use Rattle.lane_parts.specs.Parts.{channelsOf, laneOf, Parts, parts, Full, Fixed, Lent}
 use Rattle.lane_parts.proofs.Lanes.{shown, sound-counted, fixedOf, lent-of}
 use Rattle.relief.specs.declared.ReliefAnswer.{ReliefAnswer}
 use Rattle.relief.specs.Relief.{Told, enlarged, refused, told, Relief}
-use Rattle.relief.specs.Lent.{Arrays, arrays, Shows, Relievable, counts, Eased}
-use Rattle.schedule.specs.declared.running.Totals.{Totals}
-use Rattle.schedule.specs.declared.driving.Drove.{Drove}
-use Rattle.schedule.specs.Running.{begun, hasGrown}
-use Rattle.schedule.specs.Run as run
-use Rattle.schedule.specs.Drive as drive
-use Rattle.schedule.specs.Lent.{countedBy, countBy, Playable, Relieved, BytesIn, RoundsIn}
+use Rattle.waits.specs.Lent.{Arrays, arrays, Shows, Relievable}
+use Rattle.relief.specs.Lent.{counts, Eased}
+use Rattle.schedule.specs.Running.{hasGrown}
+use Rattle.schedule.specs.Lent.{countedBy, countBy, Playable, Relieved}
 
 -- t with other capacities
 abbrev pub withCapacity : List ℕ → Parts → Parts
@@ -77,13 +74,3 @@ module _ {l : Lane} {t : Parts} {cells : List ℤ} (same : laneOf (l .network) (
         all = refl;
         long = long;
       }
-
-  pub bytes-done : {bytes : List ℕ} {r : Totals} {t′ : Parts} {cells′ : List ℤ} → BytesIn bytes (l .network .processes) (fixedOf (l .network)) (l .accepted) t cells r t′ cells′
-      → run.result (run.ran (r .moved) (r .enlarged)) (world (laneOf (l .network) (r .accepted) t′) cells′) ≡ run.done (run.bytesRun bytes (begun (world l cells)))
-  bytes-done {bytes} d =
-      ap run.done (d .leaves (l .network) (lent-of (l .network)) refl (rw same sound)) ∙ ap (λ (x : Lane). run.done (run.bytesRun bytes (begun (world x cells)))) same
-
-  pub rounds-done : {most : ℕ} {r : Drove} {t′ : Parts} {cells′ : List ℤ} → RoundsIn most (l .network .processes) (fixedOf (l .network)) (l .accepted) t cells r t′ cells′
-      → drive.result (drive.drove (drive.endOf (r .end)) (r .picks) (r .enlarged)) (world (laneOf (l .network) (r .accepted) t′) cells′) ≡ drive.done (l .network .processes) (drive.rounds most 0 (begun (world l cells)))
-  rounds-done {most} d =
-      d .leaves (l .network) (lent-of (l .network)) refl (rw same sound) ∙ ap (λ (x : Lane). drive.done (l .network .processes) (drive.rounds most 0 (begun (world x cells)))) same

@@ -1,10 +1,4 @@
 pub mod Ready
 pub mod Through
-pub mod Stretches
-pub mod Rule
-pub mod Rounds
 pub mod Lent
-pub mod Ways
-pub mod Courses
-pub mod Reliefs
-pub mod Witness
+pub mod Fixture

@@ -1,21 +1,27 @@
--- A lane and cells on which picks can be made, and that picks and reliefs leave them so.
+-- A lane and cells on which picks can be made, and that picks and reliefs leave them so; a relief there enlarges, or is refused with 13 or 14.
 -- Assumes nothing.
-use mathlib.Core.Path.{_≡_, _∙_}
+use mathlib.Core.Path.{_≡_, refl, _∙_}
 use mathlib.Core.Bool.{Bool, true, false, cond}
 use mathlib.Core.List.{List, [], _∷_}
 use Prim.Native.Nat.{ℕ, zero, suc, _≤_, _<_}
 use native.Mathlib.Omega.{arith}
+use borrow.Author.Tests.{eqb-true, not-false}
 use lib.Dec.{eqb}
-use lib.ListN.{length, getD}
+use lib.ListN.{length, getD, replicate}
 use Rattle.network.specs.declared.Network.{Network}
+use Rattle.network.proofs.Passed.{passed}
 use Rattle.lane.specs.State.{World, world}
 use Rattle.lane.specs.Sound.{soundOf}
 use Rattle.lane.specs.Pick.{pickIn, Progress, pickNext, pickAll, Rounds, roundsEnd, recounted, pickRounds}
+use Rattle.lane.specs.Calls.{cellsWrong, unsound}
 use Rattle.lane.proofs.Shape.{Shaped}
 use Rattle.lane.proofs.PickLaws.{pick-sound, pick-network, pick-cells, pick-shaped}
 use Rattle.lane.proofs.CallLaws.{Preserves}
-use Rattle.relief.specs.Relief.{relieveOf}
+use Rattle.lane.proofs.SoundLaws.{sound-says}
+use Rattle.relief.specs.Relief.{relieveOf, NoOther}
 use Rattle.relief.proofs.Enlarged.{relief-kept}
+use Rattle.relief.proofs.Relieving.{relief-answers}
+use Rattle.schedule.specs.Running.{Running, picks, reliefIn, relieves}
 
 -- a sound lane of the network n, with its cells
 pub record Ready (n : Network) (w : World) : Type 0 where
@@ -58,3 +64,20 @@ module _ (n : Network) where
 
   pub ready-relief : (w : World) (buffer : List ℕ) → Ready n w → Ready n (world (relieveOf (w .lane) buffer .lane) (w .cells))
   ready-relief w buffer = ready-kept w _ (relief-kept w buffer)
+
+  -- a relief on the way
+  pub ready-answers : (w : World) → Ready n w → NoOther (reliefIn w)
+  ready-answers w s = relief-answers (w .lane) (replicate 16 0) (s .sound) (passed (w .lane .network) (sound-says (w .lane) (s .sound) .passed) .processes-high)
+
+  -- the lane stays sound
+  pub ready-picks : (p : ℕ) (r : Running) → p < n .processes → Ready n (r .world) → Ready n (picks p r .world)
+  unfolding picks
+  ready-picks p r h s = ready-pick p (r .world) h s
+
+  pub ready-relieves : (r : Running) → Ready n (r .world) → Ready n (relieves r .world)
+  unfolding relieves
+  ready-relieves r s = ready-relief (r .world) (replicate 16 0) s
+
+-- from the tests on
+pub ready : (w : World) → Shaped (w .lane) → cellsWrong w ≡ false → unsound w ≡ false → Ready (w .lane .network) w
+ready w shaped e f = record { same = refl; long = eqb-true _ _ (not-false _ e); shaped = shaped; sound = not-false _ f }

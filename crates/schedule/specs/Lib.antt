@@ -1,6 +1,2 @@
 pub mod Running
-pub mod Run
-pub mod Drive
-pub mod Reliefs
-pub mod Parts
 pub mod Lent

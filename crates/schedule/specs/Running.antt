@@ -33,7 +33,8 @@ abbrev pub hasGrown : Told → Bool
 hasGrown (enlarged n c) = true
 hasGrown (refused n) = false
 
--- "refusals 13 and 14 are passed over inside it". A run and a drive meet no other (`run-no-other` and `drive-no-other` of proofs/Reliefs.antt).
+-- "refusals 13 and 14 are passed over inside it". A run and a drive meet no other (`run-no-other` of runs/proofs/Reliefs.antt,
+-- `drive-no-other` of drives/proofs/Reliefs.antt).
 unfoldable pub relieves : Running → Running
 relieves r =
     record {

@@ -1,64 +1,14 @@
-// A run over given picks, and the driver.
-mod bytes;
-mod driving;
-mod running;
-
-use base::Refusal;
-pub use bytes::all_named;
-pub use driving::drive;
-use lane::Lane;
+// Picks and reliefs one after the other: what a run and the driver share.
 use relief::ReliefAnswer;
-pub use running::run;
 ghost use mathlib.Core.Path.{_≡_};
 ghost use mathlib.Core.Bool.{cond};
-ghost use Prim.Native.Nat.{_≤_};
 ghost use Rattle.relief.specs.Relief.{told};
-ghost use Rattle.relief.specs.Lent.{arrays, Relievable};
+ghost use Rattle.waits.specs.Lent.{arrays, Relievable};
 ghost use Rattle.schedule.specs.Running.{hasGrown};
 ghost use Rattle.schedule.specs.Lent.{countedBy, Relieved};
 
-pub enum RunAnswer {
-    Ran { moved: u64, enlarged: u64 },
-    Refused(Refusal),
-}
-
-pub struct RunResult {
-    pub lane: Lane,
-    pub answer: RunAnswer,
-}
-
-// How a drive ends: nothing can move and no ring waits for room; such rings wait at channels of 256 alone; the picks are spent.
-pub enum End {
-    Settled,
-    Ceiling,
-    Spent,
-}
-
-pub enum DriveAnswer {
-    Driven { end: End, picks: u64, enlarged: u64 },
-    Refused(Refusal),
-}
-
-pub struct DriveResult {
-    pub lane: Lane,
-    pub answer: DriveAnswer,
-}
-
-// How many reliefs more have enlarged: one, or none.
-fn gained(answer: ReliefAnswer) -> u64
-    ensures { λ r. ⌜ (r ≡ cond (hasGrown (told answer)) 1 0) × (r ≤ 1) ⌝ }
-{
-    match answer {
-        ReliefAnswer::Enlarged {
-            length: _,
-            channel: _,
-        } => 1,
-        ReliefAnswer::Refused(_) => 0,
-    }
-}
-
-// The count of accepted calls after so many reliefs that enlarged, one or none.
-fn count_by(enlarged: u64, accepted: u64) -> u64
+// The count of accepted calls after so many reliefs that enlarged, one or none. Public for the run and the driver.
+pub fn count_by(enlarged: u64, accepted: u64) -> u64
     ensures { λ r. ⌜ r ≡ countedBy enlarged accepted ⌝ }
 {
     if enlarged == 0 {
@@ -67,8 +17,8 @@ fn count_by(enlarged: u64, accepted: u64) -> u64
     process::counted(accepted)
 }
 
-// The relief of a sound lane with these arrays, with a ring buffer of its own, which has room for any ring. Public for the bench, which has
-// tested once that the lane is sound.
+// The relief of a sound lane with these arrays, with a ring buffer of its own, which has room for any ring. Public for the run, the
+// driver and the bench, which have tested once that the lane is sound.
 pub fn relieve_in(
     used: usize,
     code: &[u8; 4064],

@@ -3,7 +3,7 @@
 use Prim.Native.Nat.{_-_, _<_}
 use native.Mathlib.Omega.{arith}
 use borrow.Author.Needs.{needs}
-use Rattle.relief.specs.Lent.{arrays}
+use Rattle.waits.specs.Lent.{arrays}
 use Rattle.bench_turns.proofs.Processes.{Lined, sixteen-most, none-lined, line-fits, next-lined, all-lined}
 use Rattle.bench_turns.proofs.print_processes.Statement.{statement}
 use Rattle.bench_turns.proofs.print_processes.Tie as tie

@@ -5,7 +5,7 @@ use Prim.Native.Nat.{ℕ, zero, suc}
 use borrow.Author.Needs.{needs}
 use Rattle.listing.specs.declared.Status.the-variants.{Fault}
 use Rattle.lane_parts.specs.Parts.{conditionOf}
-use Rattle.relief.specs.Waits.{Wait}
+use Rattle.waits.specs.Waits.{Wait}
 use Rattle.bench_rules.specs.Playing.{statusIn}
 use Rattle.bench_turns.proofs.status.Statement.{statement}
 use Rattle.bench_turns.proofs.status.Tie as tie

@@ -5,8 +5,8 @@ use mathlib.Core.Bool.{true}
 use borrow.Author.Needs.{needs}
 use borrow.Author.Tests.{not-true, not-false}
 use Rattle.lane.specs.Sound.{soundOf}
+use Rattle.waits.proofs.Arrays.{parted}
 use Rattle.relief.specs.Relief.{relieveOf}
-use Rattle.relief.proofs.Arrays.{parted}
 use Rattle.relief.proofs.relieve.Statement.{statement}
 use Rattle.relief.proofs.relieve.Tie as tie
 

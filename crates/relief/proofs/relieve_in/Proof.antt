@@ -13,10 +13,10 @@ use Rattle.lane.specs.declared.Lane.{Lane}
 use Rattle.lane.specs.Sound.{soundOf}
 use Rattle.lane.proofs.SoundLaws.{sound-says}
 use Rattle.lane_parts.proofs.Zip.{keeps-capacity}
-use Rattle.relief.specs.Rings.{found}
+use Rattle.rings.specs.Rings.{found}
+use Rattle.rings.specs.Arrays.{foundOf}
+use Rattle.waits.specs.Lent.{Arrays, arrays, Shows}
 use Rattle.relief.specs.Relief.{foundIn, relieveOf}
-use Rattle.relief.specs.Parts.{foundOf}
-use Rattle.relief.specs.Lent.{Arrays, arrays, Shows}
 use Rattle.relief.proofs.Enlarged.{Enlargeable, found-enlargeable}
 use Rattle.relief.proofs.Arrays.{found-at, grew}
 use Rattle.relief.proofs.relieve_in.Statement.{statement}

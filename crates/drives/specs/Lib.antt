@@ -1,0 +1,4 @@
+pub mod Drive
+pub mod Reliefs
+pub mod Parts
+pub mod Lent

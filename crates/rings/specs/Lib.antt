@@ -1,0 +1,3 @@
+pub mod Rings
+pub mod Taken
+pub mod Arrays

@@ -1,0 +1,4 @@
+pub mod Run
+pub mod Reliefs
+pub mod Stretches
+pub mod Lent

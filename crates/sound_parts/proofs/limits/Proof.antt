@@ -1,0 +1,146 @@
+-- `sound_parts::limits` meets its contract. The loop's invariant: each of the two numbers has the answer of the channels passed.
+-- Assumes nothing.
+use mathlib.Core.Path.{_≡_, refl, sym, ap₂, _∙_}
+use mathlib.Core.Bool.{Bool, true, false, _&&_, and-false}
+use mathlib.Core.List.{List}
+use Prim.Native.Nat.{ℕ, _+_, _-_, _*_, _≤_}
+use native.Mathlib.Nat.{zero-add}
+use native.Mathlib.Omega.{arith}
+use borrow.Author.Needs.{needs}
+use borrow.Author.Tests.{eq-eqb, ne-eqb}
+use lib.Bits.{bitOr}
+use lib.Dec.{leb}
+use lib.ListN.{getD}
+use Rattle.base.specs.Tests.{inTurn, firstBad, isGood, between}
+use Rattle.process.specs.declared.Channel.{Channel}
+use Rattle.process.specs.Channels.{noChannel}
+use Rattle.lane.specs.Sound.{channelSound}
+use Rattle.flags.specs.Clean.{clean}
+use Rattle.flags.proofs.Clean.{Tells, laid, one}
+use Rattle.sound_parts.proofs.Within.{places-clean, filling-clean}
+use Rattle.sound_parts.proofs.Pairs.{two-kinds}
+use Rattle.sound_parts.proofs.limits.Statement.{statement}
+use Rattle.sound_parts.proofs.limits.Tie as tie
+
+-- the two tests of a channel, by the array that was handed over
+abbrev placed : List Channel → ℕ → Bool
+placed channels c = let h = getD channels c noChannel in between 1 (h .capacity) 256 && leb (h .oldest) 255
+
+abbrev filled : List Channel → ℕ → Bool
+filled channels c = let h = getD channels c noChannel in leb (h .held) (h .capacity)
+
+abbrev Inv-loop : tie.InvT-loop
+Inv-loop used channels places₀ fillings₀ c₀ places fillings c =
+    (c ≤ used) × Tells 0xFF00FF00 (placed channels) 0 c places × Tells 0x10000 (filled channels) 0 c fillings
+
+abbrev μ-loop : tie.MeasureT-loop
+μ-loop used channels places₀ fillings₀ c₀ places fillings c = used - c
+
+loop-holds : tie.Need-loop-holds Inv-loop μ-loop
+unfolding inTurn
+loop-holds c = (search needs, refl, refl)
+
+mul-h : tie.Need-mul-h Inv-loop μ-loop
+mul-h c = search needs
+
+array-copy-out-h : tie.Need-array-copy-out-h Inv-loop μ-loop
+array-copy-out-h c = search needs
+
+cast-capacity : tie.Need-cast-capacity Inv-loop μ-loop
+cast-capacity c = search needs
+
+cast-places : tie.Need-cast-places Inv-loop μ-loop
+cast-places c = search needs
+
+mul-places : tie.Need-mul-places Inv-loop μ-loop
+mul-places c = search needs
+
+add-places : tie.Need-add-places Inv-loop μ-loop
+add-places c = search needs
+
+add-places-2 : tie.Need-add-places-2 Inv-loop μ-loop
+add-places-2 c = search needs
+
+cast-fillings : tie.Need-cast-fillings Inv-loop μ-loop
+cast-fillings c = search needs
+
+add-fillings : tie.Need-add-fillings Inv-loop μ-loop
+add-fillings c = search needs
+
+sub-fillings : tie.Need-sub-fillings Inv-loop μ-loop
+sub-fillings c = search needs
+
+add-c : tie.Need-add-c Inv-loop μ-loop
+add-c c = search needs
+
+loop-less : tie.Need-loop-less Inv-loop μ-loop
+loop-less c = search needs
+
+-- one channel more
+more : (mask : ℕ) (test : ℕ → Bool) (c x y : ℕ) → Tells mask test 0 c x → clean mask y ≡ test c → Tells mask test 0 (c + 1) (bitOr x y)
+more mask test c x y p q = laid mask test 0 c 1 x y p (rw zero-add (one mask test y c q))
+
+loop-again : tie.Need-loop-again Inv-loop μ-loop
+loop-again c =
+    let t = c .before .before .before .before .before in
+    let l = t .loop in
+    let h = getD (t .before .args .t1) (l .c) noChannel in (
+      search needs,
+      more 0xFF00FF00 (placed (t .before .args .t1)) (l .c) (l .places) (h .capacity + 0x10000 * h .oldest + 0xFFFFFFFF) (l .inv .1)
+          (places-clean (h .capacity) (h .oldest) (search needs) (search needs)),
+      more 0x10000 (filled (t .before .args .t1)) (l .c) (l .fillings) (h .held + 0xFFFF - h .capacity) (l .inv .2)
+          (filling-clean (h .held) (h .capacity) (search needs) (search needs)),
+    )
+
+-- the limits of a channel are the two tests
+turned : (a b c : Bool) → (a && b && c && true && true) ≡ (b && c && a)
+turned true true true = refl
+turned true true false = refl
+turned true false c = refl
+turned false b c = sym (and-false (b && c))
+
+two : (h : Channel) → channelSound false false h ≡ (between 1 (h .capacity) 256 && leb (h .oldest) 255 && leb (h .held) (h .capacity))
+unfolding channelSound
+two h = turned (leb (h .held) (h .capacity)) (between 1 (h .capacity) 256) (leb (h .oldest) 255)
+
+-- what the two numbers say of all channels in use, b the first of them
+told : (c : tie.After-loop Inv-loop μ-loop) (b : Bool) → clean 0xFF00FF00 (c .before .loop .places) ≡ b
+    → (b && clean 0x10000 (c .before .loop .fillings))
+    ≡ isGood (firstBad (λ k. channelSound false false (getD (c .before .before .args .t1) k noChannel)) 0 (c .before .before .args .used))
+told c b p =
+    let l = c .before .loop in
+    let a = c .before .before .args in
+    let e : l .c ≡ a .used = omega arith in
+    ap₂ _&&_ (sym p ∙ l .inv .1) (l .inv .2)
+    ∙ rw e (sym (two-kinds _ (placed (a .t1)) (filled (a .t1)) 0 (a .used) (λ k h m. two (getD (a .t1) k noChannel))))
+
+returns : tie.Need-returns Inv-loop μ-loop
+returns c lane e = rw e (told (c .before) true (eq-eqb _ 0 (c .if1 .taken)))
+
+returns-2 : tie.Need-returns-2 Inv-loop μ-loop
+returns-2 c lane e =
+    let bad : clean 0xFF00FF00 (c .before .before .loop .places) ≡ false = ne-eqb _ 0 (c .if1 .left) in
+    rw e (bad ∙ told (c .before) false bad)
+
+pub limits-spec : {M : Type 1} → statement M
+limits-spec =
+    tie.close
+    (tie.spec
+    Inv-loop
+    μ-loop
+    loop-holds
+    mul-h
+    array-copy-out-h
+    cast-capacity
+    cast-places
+    mul-places
+    add-places
+    add-places-2
+    cast-fillings
+    add-fillings
+    sub-fillings
+    add-c
+    loop-less
+    loop-again
+    returns
+    returns-2)

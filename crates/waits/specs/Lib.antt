@@ -1,0 +1,3 @@
+pub mod Waits
+pub mod Parts
+pub mod Lent
