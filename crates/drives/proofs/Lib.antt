@@ -1,6 +1,6 @@
 pub mod Rule
 pub mod RoundLaws
 pub mod Lent
-pub mod Courses
+pub mod Arrays
 pub mod Reliefs
 pub mod Witness

@@ -1,13 +1,11 @@
 -- Each relief that a drive makes enlarges, or is refused with 13 or 14: the lane is sound on the way, and there is room for any ring.
 -- Assumes nothing.
 use mathlib.Core.Path.{ap}
-use mathlib.Core.Bool.{Bool, true, false, cond}
 use Prim.Native.Nat.{ℕ, zero, suc, _+_, _/_, _≤_}
 use native.Mathlib.Omega.{arith}
-use lib.Dec.{eqb}
 use Rattle.network.specs.declared.Network.{Network}
 use Rattle.lane.specs.State.{World}
-use Rattle.schedule.specs.Running.{Running, begun, picks, relieves}
+use Rattle.schedule.specs.Running.{Running, begun, picks}
 use Rattle.schedule.proofs.Ready.{Ready, ready-answers, ready-picks, ready-relieves, ready}
 use Rattle.drives.specs.Drive.{turns, afresh, round, leftAfter}
 use Rattle.drives.specs.Reliefs.{InRounds, InDrive}
@@ -21,19 +19,12 @@ module _ (n : Network) where
   ready-round : (r : Running) → Ready n (r .world) → Ready n (round r .world)
   ready-round r s = ready-turns (r .world .lane .network .processes) 0 (afresh r) (omega (arith, ap (λ (m : Network). m .processes) (s .same))) s
 
-  ready-after : (r : Running) → Ready n (r .world) → Ready n (leftAfter r .world)
-  ready-after r s = by (eqb (r .moved) 0)
-    where
-      by : (b : Bool) → Ready n (cond b (relieves r) r .world)
-      by true = ready-relieves n r s
-      by false = s
-
   -- ---- the rounds of a drive
   in-rounds : (k : ℕ) (r : Running) → Ready n (r .world) → InRounds k r
   in-rounds zero r s = tt
   in-rounds (suc k) r s =
       let t = ready-round r s in
-      ((λ e. ready-answers n (round r .world) t), λ e. in-rounds k (leftAfter (round r)) (ready-after (round r) t))
+      (ready-answers n (round r .world) t, λ e. in-rounds k (leftAfter (round r)) (ready-relieves n (round r) t))
 
 -- ---- from the tests on
 pub drive-no-other : (budget : ℕ) (w : World) → InDrive budget w

@@ -1,5 +1,7 @@
--- Document 01, "Driver": "With a number of picks: while at least P are left, pick 0 to P−1 in turn. After a round without a move, relieve. Refusal 13
--- ends it as settled, 14 as ceiling; fewer than P left ends it as spent. It answers picks and enlargements made."
+-- Document 01, "Driver": "With a number of picks: while at least P are left, pick 0 to P−1 in turn. .. Refusal 13 ends it as settled, 14 as ceiling;
+-- fewer than P left ends it as spent. It answers picks and enlargements made." Document 02, 5: "It shall try relief once after every round, moves or
+-- not. It ends as settled exactly after a round with no move and refusal 13, and as ceiling exactly after a round with no move and refusal 14."
+-- (The "exactly" is `ends-exactly` of courses/proofs/Exactly.antt.)
 -- Assumes nothing.
 use mathlib.Core.Bool.{cond}
 use Prim.Native.Nat.{ℕ, zero, suc, _+_, _*_, _/_}
@@ -36,18 +38,19 @@ pub data Next : Type 0 where
   ends : Ended → Next
   goes : Next
 
--- 13 ends it as settled, 14 as ceiling; a relief that enlarged goes on. 15 and 16 do not come: there is room for any ring, and the lane is sound
--- (`drive-no-other` of proofs/Reliefs.antt).
+-- after a round with no move: 13 ends it as settled, 14 as ceiling; a relief that enlarged goes on. 15 and 16 do not come: there is room for any ring,
+-- and the lane is sound (`drive-no-other` of proofs/Reliefs.antt).
 abbrev pub byRelief : relief.Told → Next
 byRelief (relief.enlarged n c) = goes
 byRelief (relief.refused n) = cond (eqb n 14) (ends ceiling) (ends settled)
 
--- the rule after a round: "After a round without a move, relieve."
+-- the rule after a round: it ends only after one with no move
 abbrev pub nextAfter : Running → Next
 nextAfter r = cond (eqb (r .moved) 0) (byRelief (reliefIn (r .world))) goes
 
+-- "relief once after every round, moves or not"
 abbrev pub leftAfter : Running → Running
-leftAfter r = cond (eqb (r .moved) 0) (relieves r) r
+leftAfter r = relieves r
 
 pub record Drive : Type 0 where
   pub end : Ended

@@ -24,3 +24,8 @@ pub record Ruled (l : Lane) (moved : ℕ) (next : Next) (l′ : Lane) (enlarged 
   pub follows : nextOf next ≡ drive.nextAfter (roundOn l moved)
   pub lane : l′ ≡ drive.leftAfter (roundOn l moved) .world .lane
   pub grown : enlarged ≡ drive.leftAfter (roundOn l moved) .grown
+
+-- how a drive ends with what comes after its last round: where it would go on, no round is left
+abbrev pub endBy : drive.Next → drive.Ended
+endBy (drive.ends e) = e
+endBy drive.goes = drive.spent

@@ -1,10 +1,11 @@
-// The driver: rounds of picks, and a relief after each round without a move.
+// The driver: rounds of picks, and a relief after each round.
 use base::Refusal;
 use lane::Lane;
 use relief::ReliefAnswer;
 ghost use mathlib.Core.Path.{_≡_};
-ghost use mathlib.Core.Bool.{false};
+ghost use mathlib.Core.Bool.{false, cond};
 ghost use Prim.Native.Nat.{_*_, _≤_};
+ghost use lib.Dec.{eqb};
 ghost use Rattle.base.specs.Refusals.{numberOf};
 ghost use Rattle.lane.specs.State.{world};
 ghost use Rattle.lane.specs.Calls.{cellsWrong, unsound};
@@ -13,7 +14,8 @@ ghost use Rattle.relief.specs.Relief as relief;
 ghost use Rattle.waits.specs.Lent.{arrays, Relievable};
 ghost use Rattle.schedule.specs.Running.{begun};
 ghost use Rattle.schedule.specs.Lent.{Playable};
-ghost use Rattle.drives.specs.Drive.{ends, byRelief, rounds, endOf, told, result, done, driveOf};
+ghost use Rattle.drives.specs.Drive.{ends, goes, byRelief, rounds, endOf, told, result, done, driveOf};
+ghost use Rattle.drives.specs.Parts.{nextOf, endBy};
 ghost use Rattle.drives.specs.Lent.{RuledIn, RoundsIn};
 
 // How a drive ends: nothing can move and no ring waits for room; such rings wait at channels of 256 alone; the picks are spent.
@@ -64,7 +66,17 @@ fn end_by(refusal: Refusal) -> End
     }
 }
 
-// The rule after a round that moved so many processes: after a round without a move, relieve.
+// What comes after a round that moved so many processes and whose relief was refused: the drive ends only where none moved.
+fn refused_after(moved: u64, refusal: Refusal) -> Next
+    ensures { λ r. ⌜ nextOf r ≡ cond (eqb moved 0) (byRelief (relief.refused (numberOf refusal))) goes ⌝ }
+{
+    if moved == 0 {
+        return Next::Ends(end_by(refusal));
+    }
+    Next::Goes
+}
+
+// The rule after a round that moved so many processes: relieve, moves or not.
 fn next_in(
     moved: u64,
     used: usize,
@@ -82,12 +94,6 @@ fn next_in(
     requires { ⌜ Relievable used (arrays (now code) (now first) (now sender) (now receiver) (now positions) (now conditions) (now capacity) (now oldest) (now held) (now closed)) ⌝ }
     ensures { λ r. ⌜ RuledIn moved used (arrays (now (code .entry)) (now (first .entry)) (now (sender .entry)) (now (receiver .entry)) (now (positions .entry)) (now (conditions .entry)) (now (capacity .entry)) (now (oldest .entry)) (now (held .entry)) (now (closed .entry))) r (now (capacity .exit)) ⌝ }
 {
-    if moved != 0 {
-        return After {
-            enlarged: 0,
-            next: Next::Goes,
-        };
-    }
     let answer = schedule::relieve_in(
         used,
         code,
@@ -111,8 +117,18 @@ fn next_in(
         },
         ReliefAnswer::Refused(refusal) => After {
             enlarged: 0,
-            next: Next::Ends(end_by(refusal)),
+            next: refused_after(moved, refusal),
         },
+    }
+}
+
+// How a drive ends with what comes after its last round: where it would go on, the picks are spent.
+fn end_of(next: Next) -> End
+    ensures { λ r. ⌜ endOf r ≡ endBy (nextOf next) ⌝ }
+{
+    match next {
+        Next::Ends(end) => end,
+        Next::Goes => End::Spent,
     }
 }
 
@@ -136,7 +152,8 @@ fn refused(lane: Lane, refusal: Refusal) -> DriveResult
     }
 }
 
-// So many rounds at most: rounds until one has no move, then a relief, and again. So many calls were accepted before.
+// So many rounds at most, and the rule after the last of them: that is the last one that may be made, or one with no move whose relief enlarges
+// nothing. So many calls were accepted before.
 fn rounds_in(
     most: u64,
     accepted: u64,
@@ -159,53 +176,48 @@ fn rounds_in(
     requires { ⌜ Playable used (fixed (now code) (now first) (now sender) (now receiver) channels) (parts (now registers) (now positions) (now conditions) (now moves) (now capacity) (now oldest) (now held) (now closed)) (now cells) × (used * most ≤ 18446744073709551615) ⌝ }
     ensures { λ r. ⌜ RoundsIn most used (fixed (now (code .entry)) (now (first .entry)) (now (sender .entry)) (now (receiver .entry)) channels) accepted (parts (now (registers .entry)) (now (positions .entry)) (now (conditions .entry)) (now (moves .entry)) (now (capacity .entry)) (now (oldest .entry)) (now (held .entry)) (now (closed .entry))) (now (cells .entry)) r (parts (now (registers .exit)) (now (positions .exit)) (now (conditions .exit)) (now (moves .exit)) (now (capacity .exit)) (now (oldest .exit)) (now (held .exit)) (now (closed .exit))) (now (cells .exit)) ⌝ }
 {
-    let order = [0u8, 1, 2, 3, 4, 5, 6, 7, 8, 9, 10, 11, 12, 13, 14, 15];
-    let round = used as u64;
-    let mut left = most;
-    let mut enlarged: u64 = 0;
-    let mut count = accepted;
-    while left > 0 {
-        let ran = lent_rounds::rounds_in(
-            &order[..used],
-            left - 1,
-            code,
-            first,
-            sender,
-            receiver,
-            channels,
-            registers,
-            positions,
-            conditions,
-            moves,
-            capacity,
-            oldest,
-            held,
-            closed,
-            cells,
-        );
-        left = ran.left;
-        let after = next_in(
-            ran.moved,
-            used,
-            code,
-            first,
-            sender,
-            receiver,
-            positions,
-            conditions,
-            capacity,
-            oldest,
-            held,
-            closed,
-        );
-        enlarged += after.enlarged;
-        count = schedule::count_by(after.enlarged, count);
-        let next = after.next;
-        if let Next::Ends(end) = next {
-            return driven(end, round * (most - left), enlarged, count);
-        }
+    if most == 0 {
+        return driven(End::Spent, 0, 0, accepted);
     }
-    driven(End::Spent, round * (most - left), enlarged, count)
+    let order = [0u8, 1, 2, 3, 4, 5, 6, 7, 8, 9, 10, 11, 12, 13, 14, 15];
+    let ran = lent_rounds::rounds_in(
+        &order[..used],
+        most - 1,
+        used,
+        code,
+        first,
+        sender,
+        receiver,
+        channels,
+        registers,
+        positions,
+        conditions,
+        moves,
+        capacity,
+        oldest,
+        held,
+        closed,
+        cells,
+    );
+    let after = next_in(
+        ran.moved,
+        used,
+        code,
+        first,
+        sender,
+        receiver,
+        positions,
+        conditions,
+        capacity,
+        oldest,
+        held,
+        closed,
+    );
+    let enlarged = ran.enlarged + after.enlarged;
+    let picks = (used as u64) * (most - ran.left);
+    let next = after.next;
+    let end = end_of(next);
+    driven(end, picks, enlarged, schedule::count_by(enlarged, accepted))
 }
 
 // The rounds of a drive on a lane by value, which is taken apart once and put together once.
@@ -266,8 +278,8 @@ fn rounds(lane: Lane, cells: &mut [i32], most: u64) -> DriveResult
     }
 }
 
-// Rounds of picks with a number of picks, and a relief after each round without a move, until the lane settles, its rings
-// are at the ceiling, or the picks are spent.
+// Rounds of picks with a number of picks, and a relief after each round, until the lane settles, its rings are at the ceiling,
+// or the picks are spent.
 pub fn drive(lane: Lane, cells: &mut [i32], budget: u64) -> DriveResult
     ensures { λ r. ⌜ result (told (r .answer)) (world (r .lane) (now (cells .exit))) ≡ driveOf budget (world lane (now (cells .entry))) ⌝ }
 {

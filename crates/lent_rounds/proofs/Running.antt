@@ -1,4 +1,4 @@
--- Rounds of picks on lent arrays: what the loops keep.
+-- A round of picks on lent arrays: what the loop keeps.
 -- Assumes nothing.
 use mathlib.Core.Path.{_≡_, refl, sym, ap, _∙_}
 use mathlib.Core.Bool.{Bool, true, false, cond}
@@ -38,26 +38,6 @@ same-all p ps g = refl
 forget : (ps : List ℕ) (g : Progress) → Same (pickAll ps g) (pickAll ps (so (g .world) (g .moved)))
 forget [] g = record { place = refl; number = refl }
 forget (p ∷ ps) g = record { place = ap (λ (x : Progress). x .world) (same-all p ps g); number = ap (λ (x : Progress). x .moved) (same-all p ps g) }
-
-pub record Alike (r r′ : Rounds) : Type 0 where
-  pub place : r .progress .world ≡ r′ .progress .world
-  pub number : r .progress .moved ≡ r′ .progress .moved
-  pub rest : r .left ≡ r′ .left
-
-alike : {r r′ : Rounds} → r ≡ r′ → Alike r r′
-alike e = record { place = ap (λ (x : Rounds). x .progress .world) e; number = ap (λ (x : Rounds). x .progress .moved) e; rest = ap (λ (x : Rounds). x .left) e }
-
-forget-rounds : (again : ℕ) (ps : List ℕ) (g : Progress) → Alike (pickRounds again ps g) (pickRounds again ps (so (g .world) (g .moved)))
-forget-rounds zero [] g = record { place = refl; number = refl; rest = refl }
-forget-rounds zero (p ∷ ps) g = alike (ap (λ (x : Progress). roundsEnd x 0) (same-all p ps g))
-forget-rounds (suc again) [] g = go (forget-rounds again [] (recounted g)) (eqb (g .moved) 0)
-  where
-    go : Alike (pickRounds again [] (recounted g)) (pickRounds again [] (so (g .world) 0)) → (t : Bool)
-        → Alike (cond t (roundsEnd g (suc again)) (pickRounds again [] (recounted g))) (cond t (roundsEnd (so (g .world) (g .moved)) (suc again)) (pickRounds again [] (recounted (so (g .world) (g .moved)))))
-    go x true = record { place = refl; number = refl; rest = refl }
-    go x false = x
-forget-rounds (suc again) (p ∷ ps) g =
-    alike (ap (λ (x : Progress). cond (eqb (x .moved) 0) (roundsEnd x (suc again)) (pickRounds again (p ∷ ps) (recounted x))) (same-all p ps g))
 
 -- ---- a round: at place i, so many have moved, and what is left of the round leads to where all of it does
 pub record Way (n : Network) (accepted : ℕ) (picks : List ℕ) (t₀ : Parts) (cells₀ : List ℤ) (i moved : ℕ) (t : Parts) (cells : List ℤ) : Type 0 where
@@ -127,78 +107,5 @@ module _ {picks : List ℕ} {f : Fixed} {t₀ : Parts} {cells₀ : List ℤ} (k 
               there = sym (w .there) ∙ rw (drop-of-length-le picks h);
               count = sym (w .count) ∙ rw (drop-of-length-le picks h);
               sound = w .sound;
-            };
-      }
-
--- ---- rounds: so many may follow, and the rounds from here lead to where all of them do
-pub record Course (n : Network) (accepted again : ℕ) (picks : List ℕ) (t₀ : Parts) (cells₀ : List ℤ) (left : ℕ) (t : Parts) (cells : List ℤ) : Type 0 where
-  pub sound : soundOf (laneOf n accepted t) ≡ true
-  pub ends : Alike (pickRounds left picks (unpicked (world (laneOf n accepted t) cells))) (pickRounds again picks (unpicked (world (laneOf n accepted t₀) cells₀)))
-
-pub record Between (again : ℕ) (picks : List ℕ) (f : Fixed) (t₀ : Parts) (cells₀ : List ℤ) (left : ℕ) (t : Parts) (cells : List ℤ) : Type 0 where
-  pub long : length cells ≡ 8192
-  pub full : Full t
-  pub leads : (n : Network) (accepted : ℕ) → Lent n f → soundOf (laneOf n accepted t₀) ≡ true → Named picks n → Course n accepted again picks t₀ cells₀ left t cells
-
-pub rounds-begin : {again : ℕ} {picks : List ℕ} {f : Fixed} {t : Parts} {cells : List ℤ} → Picks picks f t cells → Between again picks f t cells again t cells
-rounds-begin k = record { long = k .long; full = k .full; leads = λ n accepted lent sound named. record { sound = sound; ends = alike refl } }
-
-module _ {again : ℕ} {picks : List ℕ} {f : Fixed} {t₀ : Parts} {cells₀ : List ℤ} (k : Picks picks f t₀ cells₀) {left : ℕ} {t : Parts} {cells : List ℤ} (s : Between again picks f t₀ cells₀ left t cells) where
-  pub picks-here : Picks picks f t cells
-  picks-here = record { network = k .network; lent = k .lent; full = s .full; sound = s .leads (k .network) 0 (k .lent) (k .sound) (k .named) .sound; named = k .named; long = s .long }
-
--- a round after which no other follows, and one that another follows
-last-round : (left : ℕ) (ps : List ℕ) (g : Progress) → (left ≡ 0) ⊎ (pickAll ps g .moved ≡ 0) → pickRounds left ps g ≡ roundsEnd (pickAll ps g) left
-last-round zero ps g e = refl
-last-round (suc left) ps g (inl e) = absurd (omega arith)
-last-round (suc left) ps g (inr e) = rw (eq-eqb (pickAll ps g .moved) 0 e)
-
-next-round : (left : ℕ) (ps : List ℕ) (g : Progress) → (left ≡ 0 → ⊥) → (pickAll ps g .moved ≡ 0 → ⊥) → pickRounds left ps g ≡ pickRounds (left - 1) ps (recounted (pickAll ps g))
-next-round zero ps g h m = absurd (h refl)
-next-round (suc left) ps g h m =
-    let e : suc left - 1 ≡ left = omega arith in
-    rw (ne-eqb (pickAll ps g .moved) 0 m, e)
-
-either : {left moved count : ℕ} → (left ≡ 0) ⊎ (moved ≡ 0) → count ≡ moved → (left ≡ 0) ⊎ (count ≡ 0)
-either (inl e) c = inl e
-either (inr e) c = inr (c ∙ e)
-
-module _ {again : ℕ} {picks : List ℕ} {f : Fixed} {t₀ : Parts} {cells₀ : List ℤ} {left : ℕ} {t : Parts} {cells : List ℤ} (s : Between again picks f t₀ cells₀ left t cells)
-    {moved : ℕ} {t′ : Parts} {cells′ : List ℤ} (d : Round picks f t cells moved t′ cells′) where
-  -- no other follows
-  pub rounds-done : (left ≡ 0) ⊎ (moved ≡ 0) → Turns again picks f t₀ cells₀ moved left t′ cells′
-  rounds-done h =
-      record {
-        full = d .full;
-        long = d .long;
-        leaves =
-            λ n accepted lent sound named.
-            let w = s .leads n accepted lent sound named in
-            let c = d .leaves n accepted lent (w .sound) named in
-            let e = alike (last-round left picks (unpicked (world (laneOf n accepted t) cells)) (either h (c .count))) in
-            (record { there = sym (w .ends .place) ∙ e .place ∙ c .there; count = sym (w .ends .number) ∙ e .number ∙ c .count; sound = c .sound }, sym (w .ends .rest) ∙ e .rest);
-      }
-
-  -- another follows
-  pub rounds-more : (left ≡ 0 → ⊥) → (moved ≡ 0 → ⊥) → Between again picks f t₀ cells₀ (left - 1) t′ cells′
-  rounds-more h m =
-      record {
-        long = d .long;
-        full = d .full;
-        leads =
-            λ n accepted lent sound named.
-            let w = s .leads n accepted lent sound named in
-            let c = d .leaves n accepted lent (w .sound) named in
-            let g : Progress = pickAll picks (unpicked (world (laneOf n accepted t) cells)) in
-            let e = alike (next-round left picks (unpicked (world (laneOf n accepted t) cells)) h (λ z. m (sym (c .count) ∙ z))) in
-            let a = forget-rounds (left - 1) picks (recounted g) in
-            let v = alike (ap (λ (x : World). pickRounds (left - 1) picks (unpicked x)) (c .there)) in
-            record {
-              sound = c .sound;
-              ends = record {
-                place = sym (v .place) ∙ sym (a .place) ∙ sym (e .place) ∙ w .ends .place;
-                number = sym (v .number) ∙ sym (a .number) ∙ sym (e .number) ∙ w .ends .number;
-                rest = sym (v .rest) ∙ sym (a .rest) ∙ sym (e .rest) ∙ w .ends .rest;
-              };
             };
       }

@@ -1,14 +1,15 @@
-// Rounds of picks on lent arrays, and a single pick of a lane by value.
+// Rounds of picks on lent arrays, with a relief after each but the last, and a single pick of a lane by value.
 use lane::Lane;
 ghost use mathlib.Core.Path.{_≡_};
-ghost use mathlib.Core.Bool.{true};
+ghost use mathlib.Core.Bool.{true, _&&_};
 ghost use Prim.Native.Nat.{_<_};
+ghost use lib.Dec.{eqb};
 ghost use lib.ListN.{length};
 ghost use Rattle.lane.specs.State.{world};
 ghost use Rattle.lane.specs.Sound.{soundOf};
 ghost use Rattle.lane.specs.Pick.{pickIn, stepFor, hasMoved};
 ghost use Rattle.lane_parts.specs.Parts.{parts, fixed};
-ghost use Rattle.lent_rounds.specs.Loops.{Picks, Round, Turns};
+ghost use Rattle.lent_rounds.specs.Loops.{Picks, Round, Rounding, Turns};
 
 // ---- rounds of picks
 // A pick as the number of a process.
@@ -65,16 +66,26 @@ fn round_in(
     moved
 }
 
-// How rounds of picks ended: the moves of the last one, and how many more might have followed.
+// How rounds of picks ended: the moves of the last one, how many more might have followed, and how many reliefs enlarged.
 pub struct Rounds {
     pub moved: u64,
     pub left: u64,
+    pub enlarged: u64,
 }
 
-// Rounds of picks: one, and so many more as long as the round before had a move. `round_in` is called at one place, so that it is a part of this loop.
+// A round without a move, whose relief enlarged nothing.
+fn idle(moved: u64, eased: u64) -> bool
+    ensures { λ r. ⌜ r ≡ (eqb moved 0 && eqb eased 0) ⌝ }
+{
+    moved == 0 && eased == 0
+}
+
+// Rounds of picks: one, and so many more, each after a relief, as long as the round before had a move or its relief enlarged. The relief after the last
+// round is the caller's. `round_in` is called at one place, so that it is a part of this loop.
 fn make_rounds(
     picks: &[u8],
     again: u64,
+    used: usize,
     code: &[u8; 4064],
     first: &[u16; 16],
     sender: &[u8; 32],
@@ -84,17 +95,18 @@ fn make_rounds(
     positions: &mut [u16; 16],
     conditions: &mut [u8; 16],
     moves: &mut [u64; 16],
-    capacity: &[u16; 32],
+    capacity: &mut [u16; 32],
     oldest: &mut [u16; 32],
     held: &mut [u16; 32],
     closed: &mut [bool; 32],
     cells: &mut [i32],
 ) -> Rounds
-    requires { ⌜ Picks (now picks) (fixed (now code) (now first) (now sender) (now receiver) channels) (parts (now registers) (now positions) (now conditions) (now moves) (now capacity) (now oldest) (now held) (now closed)) (now cells) ⌝ }
-    ensures { λ r. ⌜ Turns again (now (picks .entry)) (fixed (now (code .entry)) (now (first .entry)) (now (sender .entry)) (now (receiver .entry)) channels) (parts (now (registers .entry)) (now (positions .entry)) (now (conditions .entry)) (now (moves .entry)) (now (capacity .entry)) (now (oldest .entry)) (now (held .entry)) (now (closed .entry))) (now (cells .entry)) (r .moved) (r .left) (parts (now (registers .exit)) (now (positions .exit)) (now (conditions .exit)) (now (moves .exit)) (now (capacity .entry)) (now (oldest .exit)) (now (held .exit)) (now (closed .exit))) (now (cells .exit)) ⌝ }
+    requires { ⌜ Rounding (now picks) used (fixed (now code) (now first) (now sender) (now receiver) channels) (parts (now registers) (now positions) (now conditions) (now moves) (now capacity) (now oldest) (now held) (now closed)) (now cells) ⌝ }
+    ensures { λ r. ⌜ Turns again (now (picks .entry)) used (fixed (now (code .entry)) (now (first .entry)) (now (sender .entry)) (now (receiver .entry)) channels) (parts (now (registers .entry)) (now (positions .entry)) (now (conditions .entry)) (now (moves .entry)) (now (capacity .entry)) (now (oldest .entry)) (now (held .entry)) (now (closed .entry))) (now (cells .entry)) (r .moved) (r .left) (r .enlarged) (parts (now (registers .exit)) (now (positions .exit)) (now (conditions .exit)) (now (moves .exit)) (now (capacity .exit)) (now (oldest .exit)) (now (held .exit)) (now (closed .exit))) (now (cells .exit)) ⌝ }
 {
     let mut left = again;
     let mut moved: u64 = 0;
+    let mut enlarged: u64 = 0;
     loop {
         moved = round_in(
             picks,
@@ -116,20 +128,39 @@ fn make_rounds(
         if left == 0 {
             break;
         }
-        if moved == 0 {
+        let eased = schedule::ease_in(
+            used,
+            code,
+            first,
+            sender,
+            receiver,
+            positions,
+            conditions,
+            capacity,
+            oldest,
+            held,
+            closed,
+        );
+        if idle(moved, eased) {
             break;
         }
+        enlarged += eased;
         left -= 1;
     }
-    Rounds { moved, left }
+    Rounds {
+        moved,
+        left,
+        enlarged,
+    }
 }
 
 // The same, with the short arrays held in its own for the length of the rounds: what is lent is reached through pointers that lie in memory, its own
-// lies where the compiler knows it, which spares each pick ten instructions. Public for the run and the driver, which have shown what it requires: the
-// arrays are those of a sound lane, the cells are 8,192, and each pick names a process.
+// lies where the compiler knows it, which spares each pick ten instructions. Public for the run, which makes one round at a time, and the driver; they
+// have shown what it requires: the arrays are those of a sound lane, the cells are 8,192, and each pick names a process.
 pub fn rounds_in(
     picks: &[u8],
     again: u64,
+    used: usize,
     code: &[u8; 4064],
     first: &[u16; 16],
     sender: &[u8; 32],
@@ -139,26 +170,27 @@ pub fn rounds_in(
     positions: &mut [u16; 16],
     conditions: &mut [u8; 16],
     moves: &mut [u64; 16],
-    capacity: &[u16; 32],
+    capacity: &mut [u16; 32],
     oldest: &mut [u16; 32],
     held: &mut [u16; 32],
     closed: &mut [bool; 32],
     cells: &mut [i32],
 ) -> Rounds
-    requires { ⌜ Picks (now picks) (fixed (now code) (now first) (now sender) (now receiver) channels) (parts (now registers) (now positions) (now conditions) (now moves) (now capacity) (now oldest) (now held) (now closed)) (now cells) ⌝ }
-    ensures { λ r. ⌜ Turns again (now (picks .entry)) (fixed (now (code .entry)) (now (first .entry)) (now (sender .entry)) (now (receiver .entry)) channels) (parts (now (registers .entry)) (now (positions .entry)) (now (conditions .entry)) (now (moves .entry)) (now (capacity .entry)) (now (oldest .entry)) (now (held .entry)) (now (closed .entry))) (now (cells .entry)) (r .moved) (r .left) (parts (now (registers .exit)) (now (positions .exit)) (now (conditions .exit)) (now (moves .exit)) (now (capacity .entry)) (now (oldest .exit)) (now (held .exit)) (now (closed .exit))) (now (cells .exit)) ⌝ }
+    requires { ⌜ Rounding (now picks) used (fixed (now code) (now first) (now sender) (now receiver) channels) (parts (now registers) (now positions) (now conditions) (now moves) (now capacity) (now oldest) (now held) (now closed)) (now cells) ⌝ }
+    ensures { λ r. ⌜ Turns again (now (picks .entry)) used (fixed (now (code .entry)) (now (first .entry)) (now (sender .entry)) (now (receiver .entry)) channels) (parts (now (registers .entry)) (now (positions .entry)) (now (conditions .entry)) (now (moves .entry)) (now (capacity .entry)) (now (oldest .entry)) (now (held .entry)) (now (closed .entry))) (now (cells .entry)) (r .moved) (r .left) (r .enlarged) (parts (now (registers .exit)) (now (positions .exit)) (now (conditions .exit)) (now (moves .exit)) (now (capacity .exit)) (now (oldest .exit)) (now (held .exit)) (now (closed .exit))) (now (cells .exit)) ⌝ }
 {
     let starts = *first;
     let mut places = *positions;
     let mut states = *conditions;
     let mut counts = *moves;
-    let room = *capacity;
+    let mut room = *capacity;
     let mut oldests = *oldest;
     let mut numbers = *held;
     let mut shut = *closed;
     let r = make_rounds(
         picks,
         again,
+        used,
         code,
         &starts,
         sender,
@@ -168,7 +200,7 @@ pub fn rounds_in(
         &mut places,
         &mut states,
         &mut counts,
-        &room,
+        &mut room,
         &mut oldests,
         &mut numbers,
         &mut shut,
@@ -177,6 +209,7 @@ pub fn rounds_in(
     *positions = places;
     *conditions = states;
     *moves = counts;
+    *capacity = room;
     *oldest = oldests;
     *held = numbers;
     *closed = shut;
@@ -218,6 +251,7 @@ pub fn pick(lane: Lane, cells: &mut [i32], p: usize) -> Turn
     let r = rounds_in(
         &one,
         0,
+        lane.network.processes,
         &code,
         &first,
         &sender,
@@ -227,7 +261,7 @@ pub fn pick(lane: Lane, cells: &mut [i32], p: usize) -> Turn
         &mut positions,
         &mut conditions,
         &mut moves,
-        &capacity,
+        &mut capacity,
         &mut oldest,
         &mut held,
         &mut closed,

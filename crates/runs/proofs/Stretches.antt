@@ -18,9 +18,9 @@ use Rattle.lane.specs.State.{World, world}
 use Rattle.lane.specs.Pick.{Progress, pickAll, unpicked}
 use Rattle.lane.proofs.SoundLaws.{at-each}
 use Rattle.relief.specs.Relief.{Told, relieveOf}
-use Rattle.schedule.specs.Running.{Running, begun, picks, hasGrown, relieves}
+use Rattle.schedule.specs.Running.{Running, running, begun, picks, hasGrown, relieves}
 use Rattle.schedule.proofs.Ready.{Ready, ready-all, ready-relief}
-use Rattle.schedule.proofs.Through.{running, through, through-is, few-moves}
+use Rattle.schedule.proofs.Through.{through, through-is, few-moves}
 use Rattle.runs.specs.Run.{byteRun, bytesRun, named, someUnnamed}
 use Rattle.runs.specs.Stretches.{isPick, Stretch}
 

@@ -1,24 +1,23 @@
 -- The bytes of a run on lent arrays: what the loop over their stretches keeps, whatever network it is.
 -- Assumes nothing.
-use mathlib.Core.Path.{_≡_, refl}
-use mathlib.Core.Bool.{true, cond}
+use mathlib.Core.Path.{_≡_, refl, ap}
+use mathlib.Core.Bool.{Bool, true, false, cond}
 use mathlib.Core.List.{List}
 use Prim.Native.Nat.{ℕ, _+_, _≤_, _<_}
 use native.Mathlib.Omega.{arith}
 use lib.IntN.{ℤ}
-use lib.ListN.{length, getD}
+use lib.ListN.{length, getD, replicate}
 use Rattle.network.specs.declared.Network.{Network}
 use Rattle.lane.specs.State.{world}
 use Rattle.lane.specs.Sound.{soundOf}
+use Rattle.lane.specs.Pick.{Progress, pickAll, unpicked}
 use Rattle.lane_parts.specs.Parts.{laneOf, Parts, Full, Fixed, Lent}
 use Rattle.lane_parts.proofs.Lanes.{lane-shaped, sound-counted}
-use Rattle.lent_rounds.specs.Loops.{Picks, Turns}
-use Rattle.relief.specs.declared.ReliefAnswer.{ReliefAnswer}
-use Rattle.relief.specs.Relief.{told}
+use Rattle.lent_rounds.specs.Loops.{Course, Rounding, Turns}
+use Rattle.relief.specs.Relief.{relieveOf}
 use Rattle.waits.specs.Lent.{Relievable}
-use Rattle.schedule.specs.Running.{hasGrown}
-use Rattle.schedule.specs.Lent.{countedBy, Playable, Relieved}
-use Rattle.schedule.proofs.Through.{running}
+use Rattle.schedule.specs.Running.{running, hasGrown}
+use Rattle.schedule.specs.Lent.{countedBy, Playable, EasedBy}
 use Rattle.schedule.proofs.Lent.{withCapacity, seen, shows, relievable}
 use Rattle.runs.specs.Stretches.{Stretch}
 use Rattle.runs.specs.Lent.{AllNamed, BytesIn}
@@ -58,18 +57,21 @@ module _ {bytes : List ℕ} {used : ℕ} {f : Fixed} {accepted₀ : ℕ} {t₀ :
   here = s .leads (k .network) (k .lent) (k .all) (sound-counted (k .network) t₀ 0 accepted₀ (k .sound))
 
   -- ---- a stretch
-  pub picks-there : {e : ℕ} → Stretch bytes i e → Picks (part bytes i e) f t cells
+  pub picks-there : {e : ℕ} → Stretch bytes i e → Rounding (part bytes i e) used f t cells
   picks-there {e} st =
       record {
-        network = k .network;
-        lent = k .lent;
-        full = s .full;
-        sound = sound-counted (k .network) t accepted 0 (here .ready .sound);
-        named = part-named bytes i e st (k .network .processes) (here .named);
-        long = s .long;
+        picking = record {
+          network = k .network;
+          lent = k .lent;
+          full = s .full;
+          sound = sound-counted (k .network) t accepted 0 (here .ready .sound);
+          named = part-named bytes i e st (k .network .processes) (here .named);
+          long = s .long;
+        };
+        all = k .all;
       }
 
-  module _ {e gain left : ℕ} {t′ : Parts} {cells′ : List ℤ} (st : Stretch bytes i e) (d : Turns 0 (part bytes i e) f t cells gain left t′ cells′) where
+  module _ {e gain left none : ℕ} {t′ : Parts} {cells′ : List ℤ} (st : Stretch bytes i e) (d : Turns 0 (part bytes i e) used f t cells gain left none t′ cells′) where
     pub way-stretch : Way bytes used f accepted₀ t₀ cells₀ e (moved + gain) enlarged accepted t′ cells′
     way-stretch =
         record {
@@ -78,16 +80,30 @@ module _ {bytes : List ℕ} {used : ℕ} {f : Fixed} {accepted₀ : ℕ} {t₀ :
           leads =
               λ n lent all sound.
               let w = s .leads n lent all sound in
-              let c = d .leaves n accepted lent (w .ready .sound) (part-named bytes i e st (n .processes) (w .named)) .0 in
-              rw (← c .there, ← c .count) (after-stretch w st refl);
+              let q = d .leaves n accepted lent (w .ready .sound) (part-named bytes i e st (n .processes) (w .named)) all .0 in
+              let z : none ≡ 0 = omega (arith, d .few) in
+              let g : Progress = pickAll (part bytes i e) (unpicked (world (laneOf n accepted t) cells)) in
+              let there : g .world ≡ world (laneOf n accepted t′) cells′ = rw z at (ap (λ (x : Course). x .last .world) q) in
+              let moves : g .moved ≡ gain = ap (λ (x : Course). x .last .moved) q in
+              rw (← there, ← moves) (after-stretch w st refl);
         }
 
   -- ---- a relief
   pub relief-there : Relievable used (seen f t)
   relief-there = relievable accepted (k .lent) (k .all) (s .full) (here .ready .sound)
 
-  module _ {r : ReliefAnswer} {gain accepted′ : ℕ} {capacity′ : List ℕ} (h : i < length bytes) (x : getD bytes i 0 ≡ 255)
-      (d : Relieved used (seen f t) r (cond (hasGrown (told r)) 1 0) capacity′) (g : gain ≡ cond (hasGrown (told r)) 1 0) (a : accepted′ ≡ countedBy gain accepted) where
+  one-or-none : (b : Bool) {gain : ℕ} → gain ≡ cond b 1 0 → gain ≤ 1
+  one-or-none true e = omega arith
+  one-or-none false e = omega arith
+
+  -- it enlarges one channel at most
+  pub few-gained : {gain : ℕ} {capacity′ : List ℕ} → EasedBy used (seen f t) gain capacity′ → gain ≤ 1
+  few-gained d =
+      one-or-none (hasGrown (relieveOf (laneOf (k .network) accepted t) (replicate 16 0) .answer))
+      (d .leaves (laneOf (k .network) accepted t) (shows (k .network) accepted (s .full) (k .lent)) (here .ready .sound) (k .all) .0)
+
+  module _ {gain accepted′ : ℕ} {capacity′ : List ℕ} (h : i < length bytes) (x : getD bytes i 0 ≡ 255)
+      (d : EasedBy used (seen f t) gain capacity′) (a : accepted′ ≡ countedBy gain accepted) where
     pub way-relief : Way bytes used f accepted₀ t₀ cells₀ (i + 1) moved (enlarged + gain) accepted′ (withCapacity capacity′ t) cells
     way-relief =
         record {
@@ -97,7 +113,7 @@ module _ {bytes : List ℕ} {used : ℕ} {f : Fixed} {accepted₀ : ℕ} {t₀ :
               λ n lent all sound.
               let w = s .leads n lent all sound in
               let y = d .leaves (laneOf n accepted t) (shows n accepted (s .full) lent) (w .ready .sound) all in
-              after-relief w h x (y .0) (rw (a, g) (y .1)) g;
+              after-relief w h x refl (rw a (y .1)) (y .0);
         }
 
   -- ---- no byte left

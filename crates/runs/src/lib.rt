@@ -6,15 +6,12 @@ use lane::Lane;
 pub use pick_bytes::all_named;
 use pick_bytes::no_relief;
 use pick_bytes::stretch;
-use relief::ReliefAnswer;
 ghost use mathlib.Core.Path.{_≡_};
-ghost use mathlib.Core.Bool.{false, cond};
-ghost use Prim.Native.Nat.{_≤_};
+ghost use mathlib.Core.Bool.{false};
 ghost use Rattle.lane.specs.State.{world};
 ghost use Rattle.lane.specs.Calls.{cellsWrong, unsound};
 ghost use Rattle.lane_parts.specs.Parts.{parts, fixed};
-ghost use Rattle.relief.specs.Relief as relief;
-ghost use Rattle.schedule.specs.Running.{begun, hasGrown};
+ghost use Rattle.schedule.specs.Running.{begun};
 ghost use Rattle.schedule.specs.Lent.{Playable};
 ghost use Rattle.runs.specs.Run.{bytesRun, told, result, someUnnamed, done, runOf};
 ghost use Rattle.runs.specs.Lent.{AllNamed, BytesIn};
@@ -42,19 +39,6 @@ fn refused(lane: Lane, refusal: Refusal) -> RunResult
     RunResult {
         lane,
         answer: RunAnswer::Refused(refusal),
-    }
-}
-
-// How many reliefs more have enlarged: one, or none.
-fn gained(answer: ReliefAnswer) -> u64
-    ensures { λ r. ⌜ (r ≡ cond (hasGrown (relief.told answer)) 1 0) × (r ≤ 1) ⌝ }
-{
-    match answer {
-        ReliefAnswer::Enlarged {
-            length: _,
-            channel: _,
-        } => 1,
-        ReliefAnswer::Refused(_) => 0,
     }
 }
 
@@ -91,6 +75,7 @@ fn bytes_in(
         let ran = lent_rounds::rounds_in(
             &picks[i..e],
             0,
+            used,
             code,
             first,
             sender,
@@ -109,7 +94,7 @@ fn bytes_in(
         moved += ran.moved;
         i = e;
         if e < picks.len() {
-            let answer = schedule::relieve_in(
+            let grown = schedule::ease_in(
                 used,
                 code,
                 first,
@@ -122,7 +107,6 @@ fn bytes_in(
                 held,
                 closed,
             );
-            let grown = gained(answer);
             enlarged += grown;
             count = schedule::count_by(grown, count);
             i = e + 1;

@@ -1,18 +1,17 @@
 -- A lane and cells on which picks can be made, and that picks and reliefs leave them so; a relief there enlarges, or is refused with 13 or 14.
 -- Assumes nothing.
 use mathlib.Core.Path.{_≡_, refl, _∙_}
-use mathlib.Core.Bool.{Bool, true, false, cond}
+use mathlib.Core.Bool.{true, false}
 use mathlib.Core.List.{List, [], _∷_}
-use Prim.Native.Nat.{ℕ, zero, suc, _≤_, _<_}
+use Prim.Native.Nat.{ℕ, suc, _<_}
 use native.Mathlib.Omega.{arith}
 use borrow.Author.Tests.{eqb-true, not-false}
-use lib.Dec.{eqb}
 use lib.ListN.{length, getD, replicate}
 use Rattle.network.specs.declared.Network.{Network}
 use Rattle.network.proofs.Passed.{passed}
 use Rattle.lane.specs.State.{World, world}
 use Rattle.lane.specs.Sound.{soundOf}
-use Rattle.lane.specs.Pick.{pickIn, Progress, pickNext, pickAll, Rounds, roundsEnd, recounted, pickRounds}
+use Rattle.lane.specs.Pick.{pickIn, Progress, pickNext, pickAll}
 use Rattle.lane.specs.Calls.{cellsWrong, unsound}
 use Rattle.lane.proofs.Shape.{Shaped}
 use Rattle.lane.proofs.PickLaws.{pick-sound, pick-network, pick-cells, pick-shaped}
@@ -44,18 +43,6 @@ module _ (n : Network) where
   unfolding pickNext
   ready-all [] g h s = s
   ready-all (p ∷ ps) g h s = ready-all ps (pickNext p g) (λ k l. h (suc k) (omega arith)) (ready-pick p (g .world) (h 0 (omega arith)) s)
-
-  -- rounds of picks leave it so too, and no more of them than might have followed
-  pub ready-rounds :
-      (again : ℕ) (ps : List ℕ) (g : Progress) → ((k : ℕ) → k < length ps → getD ps k 0 < n .processes) → Ready n (g .world)
-      → Ready n (pickRounds again ps g .progress .world) × (pickRounds again ps g .left ≤ again)
-  ready-rounds zero ps g h s = (ready-all ps g h s, omega arith)
-  ready-rounds (suc again) ps g h s = by (eqb (pickAll ps g .moved) 0) _ (ready-rounds again ps (recounted (pickAll ps g)) h (ready-all ps g h s))
-    where
-      by : (b : Bool) (q : Rounds) → Ready n (q .progress .world) × (q .left ≤ again)
-          → Ready n (cond b (roundsEnd (pickAll ps g) (suc again)) q .progress .world) × (cond b (roundsEnd (pickAll ps g) (suc again)) q .left ≤ suc again)
-      by true q t = (ready-all ps g h s, omega arith)
-      by false q t = (t .0, omega (arith, t .1))
 
   -- what keeps a lane and its cells as the calls do
   pub ready-kept : (w w′ : World) → Preserves w w′ → Ready n w → Ready n w′

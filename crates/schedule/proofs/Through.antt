@@ -8,10 +8,7 @@ use native.Mathlib.Omega.{arith}
 use lib.ListN.{length}
 use Rattle.lane.specs.State.{World}
 use Rattle.lane.specs.Pick.{stepFor, pickIn, hasMoved, Progress, pickNext, pickAll, unpicked}
-use Rattle.schedule.specs.Running.{Running, picks}
-
-abbrev pub running : World → ℕ → ℕ → Running
-running w moved grown = record { world = w; moved = moved; grown = grown }
+use Rattle.schedule.specs.Running.{Running, running, picks}
 
 abbrev pub through : List ℕ → Running → Running
 through [] r = r

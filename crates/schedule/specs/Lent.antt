@@ -1,7 +1,7 @@
 -- A run and a drive on lent arrays: what a caller has shown, and what a relief leaves. What is left is said of every lane that the arrays show.
 -- Assumes nothing.
 use mathlib.Core.Path.{_≡_}
-use mathlib.Core.Bool.{true}
+use mathlib.Core.Bool.{true, cond}
 use mathlib.Core.List.{List}
 use Prim.Native.Nat.{ℕ, zero, suc}
 use lib.IntN.{ℤ}
@@ -15,11 +15,12 @@ use Rattle.lane_parts.specs.Parts.{channelsOf, ThirtyTwo, laneOf, Parts, Full, 
 use Rattle.relief.specs.declared.ReliefAnswer.{ReliefAnswer}
 use Rattle.relief.specs.Relief.{told, relieveOf}
 use Rattle.waits.specs.Lent.{Arrays, Shows}
+use Rattle.schedule.specs.Running.{hasGrown}
 
--- ---- the count of accepted calls, which is not among the arrays: a relief that enlarged is one
+-- ---- the count of accepted calls, which is not among the arrays: each relief that enlarged is one
 abbrev pub countedBy : ℕ → ℕ → ℕ
 countedBy zero accepted = accepted
-countedBy (suc k) accepted = counted accepted
+countedBy (suc k) accepted = counted (countedBy k accepted)
 
 abbrev pub countBy : ℕ → Lane → Lane
 countBy k l =
@@ -42,4 +43,12 @@ pub record Relieved (used : ℕ) (v : Arrays) (r : ReliefAnswer) (enlarged : ℕ
   pub leaves :
       (l : Lane) → Shows v l → soundOf l ≡ true → used ≡ l .network .processes
       → (told r ≡ relieveOf l (replicate 16 0) .answer)
+      × (countBy enlarged (putChannels (channelsOf capacity′ (v .oldest) (v .held) (v .closed)) l) ≡ relieveOf l (replicate 16 0) .lane)
+
+-- the same, by how many channels it enlarged, one or none
+pub record EasedBy (used : ℕ) (v : Arrays) (enlarged : ℕ) (capacity′ : List ℕ) : Type 0 where
+  pub thirtyTwo : ThirtyTwo capacity′ (v .oldest) (v .held) (v .closed)
+  pub leaves :
+      (l : Lane) → Shows v l → soundOf l ≡ true → used ≡ l .network .processes
+      → (enlarged ≡ cond (hasGrown (relieveOf l (replicate 16 0) .answer)) 1 0)
       × (countBy enlarged (putChannels (channelsOf capacity′ (v .oldest) (v .held) (v .closed)) l) ≡ relieveOf l (replicate 16 0) .lane)

@@ -12,9 +12,12 @@ pub record Running : Type 0 where
   pub moved : ℕ
   pub grown : ℕ
 
+abbrev pub running : World → ℕ → ℕ → Running
+running w moved grown = record { world = w; moved = moved; grown = grown }
+
 -- nothing made yet
 abbrev pub begun : World → Running
-begun w = record { world = w; moved = 0; grown = 0 }
+begun w = running w 0 0
 
 -- one pick of a process
 unfoldable pub picks : ℕ → Running → Running

@@ -1,11 +1,12 @@
 -- What lent arrays say of each lane that they show: the instruction of a process, and what it waits for.
 -- Assumes nothing.
 use mathlib.Core.Path.{_≡_, refl, sym, ap, _∙_}
-use mathlib.Core.Bool.{Bool, true, not}
+use mathlib.Core.Bool.{Bool, true, false, not}
 use mathlib.Core.List.{List}
-use Prim.Native.Nat.{ℕ, zero, suc, _+_, _≤_, _<_}
+use Prim.Native.Nat.{ℕ, zero, suc, _+_, _-_, _≤_, _<_}
 use native.Mathlib.Decide.{ℕ-discrete}
 use native.Mathlib.Nat.{not-suc-le-zero}
+use native.Mathlib.Numerals.{add-one}
 use native.Mathlib.Omega.{arith}
 use borrow.Author.Tests.{ne-eqb}
 use lib.Dec.{eqb}
@@ -27,7 +28,7 @@ use Rattle.lane_parts.proofs.Zip.{standing-at}
 use Rattle.waits.specs.declared.Waiting.{Waiting}
 use Rattle.waits.specs.declared.Wait.{Wait}
 use Rattle.waits.specs.Waits.{pointing, fullWait, waitsAt}
-use Rattle.waits.specs.Parts.{waitingOf, waitFrom, waitBy}
+use Rattle.waits.specs.Parts.{waitingOf, waitFrom, waitBy, wantsRoom, someWantsRoom}
 use Rattle.waits.specs.Lent.{Arrays, arrays, Shows, Looked, AllLooked}
 use Rattle.waits.proofs.WaitLaws.{waitingFor, waits-are}
 
@@ -61,7 +62,7 @@ module _ (v : Arrays) (l : Lane) (shown : Shows v l) (s : Sound l) (p : ℕ) (h 
   place-there = rw (← shown .lent .first, ← shown .position p) (next-of l p s h .place)
 
   module _ {at : ℕ} {i : Instruction} (e₁ : at ≡ getD (v .first) p 0 + getD (v .positions) p 0) (e₂ : i ≡ instructionAt (v .code) at) where
-    stands : i ≡ instructionFor p l
+    pub stands : i ≡ instructionFor p l
     stands = instruction-is l p refl (next-of l p s h .position) (e₁ ∙ rw (← shown .lent .first, ← shown .position p)) (e₂ ∙ rw (← shown .lent .code))
 
     -- what it waits for, from the results of the code's calls
@@ -126,3 +127,35 @@ module _ {used : ℕ} {v : Arrays} {points full channel : List ℕ} where
           fulls = λ q h. t .so l shown sound e q (omega arith) .1;
           channels = λ q h. t .so l shown sound e q (omega arith) .2;
         }
+
+-- ---- whether a process waits for room on a channel to a process, from its wait
+module _ (l : Lane) (p : ℕ) {w : Wait} (e : w ≡ waitBy l p) where
+  pub wants-none : w .full ≡ 0 → false ≡ wantsRoom l p
+  wants-none z = let q : fullWait l p ≡ 0 = sym (ap (λ (x : Wait). x .full) e) ∙ z in rw q
+
+  pub wants-by : (w .full ≡ 0 → ⊥) → not (eqb (w .points) 255) ≡ wantsRoom l p
+  wants-by n =
+      let a = ne-eqb (fullWait l p) 0 (λ z. n (ap (λ (x : Wait). x .full) e ∙ z)) in
+      rw (ap (λ (x : Wait). x .points) e, a)
+
+-- ---- whether one of the processes from p on does
+left-more : (used p : ℕ) → p < used → used - p ≡ suc (used - (p + 1))
+left-more used p h = omega arith
+
+module _ (l : Lane) {used p : ℕ} {all : Bool} (e : someWantsRoom l p (used - p) ≡ all) where
+  -- p does
+  pub rooms-found : p < used → {wants : Bool} → wants ≡ wantsRoom l p → wants ≡ true → true ≡ all
+  unfolding someWantsRoom
+  rooms-found h r t = rw (left-more used p h, ← r, t) at e
+
+  -- it does not
+  pub rooms-on : p < used → {wants : Bool} → wants ≡ wantsRoom l p → wants ≡ false → someWantsRoom l (p + 1) (used - (p + 1)) ≡ all
+  unfolding someWantsRoom
+  rooms-on h r t =
+      let a : someWantsRoom l (suc p) (used - (p + 1)) ≡ all = rw (left-more used p h, ← r, t) at e in
+      ap (λ (q : ℕ). someWantsRoom l q (used - (p + 1))) (add-one p) ∙ a
+
+  -- none is left
+  pub rooms-over : used ≤ p → false ≡ all
+  unfolding someWantsRoom
+  rooms-over h = let z : used - p ≡ 0 = omega arith in rw z at e

@@ -2,7 +2,7 @@
 -- code gathers of a process is its wait.
 -- Assumes nothing.
 use mathlib.Core.Path.{_≡_, refl, sym, _∙_}
-use mathlib.Core.Bool.{Bool, true, false, cond, not}
+use mathlib.Core.Bool.{Bool, true, false, cond, not, _&&_}
 use mathlib.Core.List.{List, []}
 use Prim.Native.Nat.{ℕ, _<_}
 use native.Mathlib.Omega.{arith}
@@ -151,6 +151,19 @@ pub waits-are : (l : Lane) (p : ℕ) {c : ℕ} {w : Waiting} {r : Wait} → p < 
     → r ≡ waitBy l p
 unfolding pointing fullWait waitsAt
 waits-are l p {c} {w} h e₁ e₂ e₃ = rw (e₃, lt-ltb p (l .network .processes) h, wait-is l p, ← e₁, ← e₂) (from l w c)
+
+-- a process that does not stand at a send waits for no room
+unsent : (l : Lane) (t u : Bool) (c : ℕ) → roomIn l (waitAs (cond t (cond u Empty Free) Free) c) ≡ 0
+unsent l true true c = refl
+unsent l true false c = refl
+unsent l false u c = refl
+
+pub no-send : (l : Lane) (p : ℕ) → (instructionFor p l .op ≡ 12 → ⊥) → fullWait l p ≡ 0
+unfolding fullWait waitingOf
+no-send l p n =
+    let i : Instruction = instructionFor p l in
+    let h : Channel = channelOf l (channelIn i) in
+    rw (wait-is l p, ne-eqb (i .op) 12 n) (unsent l (not (endedAt l p) && not (h .closed)) (eqb (i .op) 11 && eqb (h .held) 0) (channelIn i))
 
 -- how process p waits, and its channel, say what it waits for
 at-channel : (w : waits.Wait) → waitAs (waitingIn w) (channelWaited w) ≡ w

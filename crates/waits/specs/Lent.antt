@@ -12,7 +12,7 @@ use Rattle.lane_parts.specs.Parts.{ThirtyTwo, fixed}
 use Rattle.lane_parts.specs.Shown.{Shown}
 use Rattle.waits.specs.declared.Wait.{Wait}
 use Rattle.waits.specs.Waits.{pointing, fullWait, waitsAt}
-use Rattle.waits.specs.Parts.{waitBy}
+use Rattle.waits.specs.Parts.{waitBy, wantsRoom, someWantsRoom}
 
 -- the arrays of a lane that say what its processes wait for
 pub record Arrays : Type 0 where
@@ -73,6 +73,13 @@ pub record Relievable (used : ℕ) (v : Arrays) : Type 0 where
 -- what process p waits for is what the rule says
 abbrev pub Looked : ℕ → Arrays → Wait → Type 0
 Looked p v r = (l : Lane) → Shows v l → soundOf l ≡ true → p < l .network .processes → r ≡ waitBy l p
+
+-- whether process p waits for room on a channel to a process, and whether some process does
+abbrev pub RoomLooked : ℕ → Arrays → Bool → Type 0
+RoomLooked p v r = (l : Lane) → Shows v l → soundOf l ≡ true → p < l .network .processes → r ≡ wantsRoom l p
+
+abbrev pub RoomsLooked : ℕ → Arrays → Bool → Type 0
+RoomsLooked used v r = (l : Lane) → Shows v l → soundOf l ≡ true → used ≡ l .network .processes → r ≡ someWantsRoom l 0 (l .network .processes)
 
 -- three arrays hold the waits of l's processes: where each points, the capacity of its full wait, its channel
 pub record AreWaits (l : Lane) (points full channel : List ℕ) : Type 0 where

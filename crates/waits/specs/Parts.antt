@@ -1,7 +1,7 @@
 -- What the parts of a look at a process hand on to one another: how it waits, and its wait in numbers. `relieve` says nothing of these.
 -- Assumes nothing.
-use mathlib.Core.Bool.{Bool, cond, not, _&&_}
-use Prim.Native.Nat.{ℕ}
+use mathlib.Core.Bool.{Bool, false, cond, not, _&&_, _||_}
+use Prim.Native.Nat.{ℕ, zero, suc}
 use lib.Dec.{eqb}
 use Rattle.network.specs.Rules.{outside}
 use Rattle.process.specs.declared.Channel.{Channel}
@@ -42,3 +42,13 @@ waitingIn (waits.forRoom c) = Full
 -- what process p of a lane waits for, by the rule: how it waits, where it points, the capacity of its full wait, its channel
 abbrev pub waitBy : Lane → ℕ → Wait
 waitBy l p = wait (waitingIn (waits.waitOf l p)) (waits.pointing l p) (waits.fullWait l p) (waits.waitsAt l p)
+
+-- ---- who could be on a ring with a full wait: where nobody is, relief is refused with 13 (`unwanted-relief` of relief/proofs/Unwanted.antt)
+-- process p waits for room on a channel to a process
+abbrev pub wantsRoom : Lane → ℕ → Bool
+wantsRoom l p = not (eqb (waits.fullWait l p) 0) && not (eqb (waits.pointing l p) outside)
+
+-- one of the n processes from p on does
+unfoldable pub someWantsRoom : Lane → ℕ → ℕ → Bool
+someWantsRoom l p zero = false
+someWantsRoom l p (suc n) = wantsRoom l p || someWantsRoom l (suc p) n

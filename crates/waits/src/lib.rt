@@ -3,7 +3,7 @@ use process::Channel;
 ghost use mathlib.Core.Path.{_≡_};
 ghost use lib.ListN.{length};
 ghost use Rattle.waits.specs.Parts.{waitingOf, waitFrom};
-ghost use Rattle.waits.specs.Lent.{arrays, Relievable, Waitable, Looked, AllLooked};
+ghost use Rattle.waits.specs.Lent.{arrays, Relievable, Waitable, Looked, RoomLooked, RoomsLooked, AllLooked};
 
 // How a process would wait if picked: not at all, for a message, or for room.
 pub enum Waiting {
@@ -142,4 +142,85 @@ pub fn waits_in(
         channel[p] = wait.channel;
         p += 1;
     }
+}
+
+// Whether process p of a sound lane waits for room on a channel to a process. Only one that stands at a send can, so its opcode is looked at first.
+fn wants_room_at(
+    p: usize,
+    code: &[u8; 4064],
+    first: &[u16; 16],
+    sender: &[u8; 32],
+    receiver: &[u8; 32],
+    positions: &[u16; 16],
+    conditions: &[u8; 16],
+    capacity: &[u16; 32],
+    oldest: &[u16; 32],
+    held: &[u16; 32],
+    closed: &[bool; 32],
+) -> bool
+    requires { ⌜ Waitable p (arrays (now code) (now first) (now sender) (now receiver) (now positions) (now conditions) (now capacity) (now oldest) (now held) (now closed)) ⌝ }
+    ensures { λ r. ⌜ RoomLooked p (arrays (now (code .entry)) (now (first .entry)) (now (sender .entry)) (now (receiver .entry)) (now (positions .entry)) (now (conditions .entry)) (now (capacity .entry)) (now (oldest .entry)) (now (held .entry)) (now (closed .entry))) r ⌝ }
+{
+    let i = network::fetch(code, lane_parts::place(first[p], positions[p]));
+    if i.op != 12 {
+        return false;
+    }
+    let wait = wait_at(
+        p,
+        code,
+        first,
+        sender,
+        receiver,
+        positions,
+        conditions,
+        capacity,
+        oldest,
+        held,
+        closed,
+    );
+    if wait.full == 0 {
+        return false;
+    }
+    wait.points != 255
+}
+
+// Whether some process of a sound lane does: where none does, no ring can be relieved, and none is searched for. Public for the relief after each
+// round of a drive, whose callers have shown that the lane is sound.
+pub fn some_wants_room(
+    used: usize,
+    code: &[u8; 4064],
+    first: &[u16; 16],
+    sender: &[u8; 32],
+    receiver: &[u8; 32],
+    positions: &[u16; 16],
+    conditions: &[u8; 16],
+    capacity: &[u16; 32],
+    oldest: &[u16; 32],
+    held: &[u16; 32],
+    closed: &[bool; 32],
+) -> bool
+    requires { ⌜ Relievable used (arrays (now code) (now first) (now sender) (now receiver) (now positions) (now conditions) (now capacity) (now oldest) (now held) (now closed)) ⌝ }
+    ensures { λ r. ⌜ RoomsLooked used (arrays (now (code .entry)) (now (first .entry)) (now (sender .entry)) (now (receiver .entry)) (now (positions .entry)) (now (conditions .entry)) (now (capacity .entry)) (now (oldest .entry)) (now (held .entry)) (now (closed .entry))) r ⌝ }
+{
+    let mut p = 0;
+    while p < used {
+        let wants = wants_room_at(
+            p,
+            code,
+            first,
+            sender,
+            receiver,
+            positions,
+            conditions,
+            capacity,
+            oldest,
+            held,
+            closed,
+        );
+        if wants {
+            return true;
+        }
+        p += 1;
+    }
+    false
 }

@@ -8,7 +8,7 @@ make-rounds-requires : tie.Need-make-rounds-requires
 make-rounds-requires c κs = c .before .before .before .before .before .before .before .before .before .before .before .before .before .before .before .before .before .before .before .pre
 
 same-length : tie.Need-same-length
-same-length c = c .before .make-rounds .ensures .long ∙ sym (c .before .before .before .before .before .before .before .before .before .before .before .before .before .before .before .before .before .before .before .before .before .pre .long)
+same-length c = c .before .make-rounds .ensures .long ∙ sym (c .before .before .before .before .before .before .before .before .before .before .before .before .before .before .before .before .before .before .before .before .before .pre .picking .long)
 
 returns : tie.Need-returns
 returns c = c .before .make-rounds .ensures

@@ -9,7 +9,7 @@ use lib.ListN.{length}
 use Rattle.base.specs.Tests.{firstBad, isGood}
 use Rattle.lane_parts.specs.Parts.{parts, fixed}
 use Rattle.runs.specs.Stretches.{isPick}
-use Rattle.runs.proofs.Ways.{Way, way-begins, here, picks-there, way-stretch, relief-there, way-relief, way-ends}
+use Rattle.runs.proofs.Ways.{Way, way-begins, here, picks-there, way-stretch, relief-there, few-gained, way-relief, way-ends}
 use Rattle.runs.proofs.bytes_in.Statement.{statement}
 use Rattle.runs.proofs.bytes_in.Tie as tie
 
@@ -33,7 +33,7 @@ abbrev stretch-of : tie.After-rounds-in Inv-loop μ-loop → tie.After-stretch I
 stretch-of c = c .before .before .before .before .before .before .before .before .before .before .before
 
 -- after a relief
-abbrev rounds-of : tie.After-relieve-in Inv-loop μ-loop → tie.After-rounds-in Inv-loop μ-loop
+abbrev rounds-of : tie.After-ease-in Inv-loop μ-loop → tie.After-rounds-in Inv-loop μ-loop
 rounds-of c = c .before .before .before .before .before .before .before .before .before .before
 
 -- ---- the needs
@@ -70,41 +70,40 @@ add-moved c =
     let w = here (start-of l .pre .0) (way-stretch (start-of l .pre .0) (l .loop .inv .0) (stretch-of r .stretch .ensures) (r .rounds-in .ensures)) in
     omega (arith, w .moves, w .within)
 
-relieve-in-requires : tie.Need-relieve-in-requires Inv-loop μ-loop
-relieve-in-requires c κs =
+ease-in-requires : tie.Need-ease-in-requires Inv-loop μ-loop
+ease-in-requires c κs =
     let r = c .before .before .before .before .before .before .before .before .before in
     let l = loop-of r in
     relief-there (start-of l .pre .0) (way-stretch (start-of l .pre .0) (l .loop .inv .0) (stretch-of r .stretch .ensures) (r .rounds-in .ensures))
 
-gained-requires : tie.Need-gained-requires Inv-loop μ-loop
-gained-requires c κs = search needs
-
 add-enlarged : tie.Need-add-enlarged Inv-loop μ-loop
 add-enlarged c =
-    let r = rounds-of (c .before) in
+    let r = rounds-of c in
     let l = loop-of r in
-    let w = here (start-of l .pre .0) (l .loop .inv .0) in
-    omega (arith, c .gained .ensures .1, w .grows, w .within)
+    let k = start-of l .pre .0 in
+    let w = way-stretch k (l .loop .inv .0) (stretch-of r .stretch .ensures) (r .rounds-in .ensures) in
+    let p = here k w in
+    omega (arith, few-gained k w (c .ease-in .ensures), p .grows, p .within)
 
 count-by-requires : tie.Need-count-by-requires Inv-loop μ-loop
 count-by-requires c κs = search needs
 
 add-i : tie.Need-add-i Inv-loop μ-loop
-add-i c = omega (arith, c .before .before .before .before .before .before .before .before .before .if1 .taken, start-of (loop-of (rounds-of (c .before .before))) .good .0 .0)
+add-i c = omega (arith, c .before .before .before .before .before .before .before .before .if1 .taken, start-of (loop-of (rounds-of (c .before))) .good .0 .0)
 
 loop-less : tie.Need-loop-less Inv-loop μ-loop
 loop-less c =
-    let r = rounds-of (c .before .before) in
-    omega (arith, stretch-of r .stretch .ensures .from, c .before .before .before .before .before .before .before .before .before .if1 .taken)
+    let r = rounds-of (c .before) in
+    omega (arith, stretch-of r .stretch .ensures .from, c .before .before .before .before .before .before .before .before .if1 .taken)
 
 loop-again : tie.Need-loop-again Inv-loop μ-loop
 loop-again c =
-    let r = rounds-of (c .before .before) in
+    let r = rounds-of (c .before) in
     let l = loop-of r in
     let k = start-of l .pre .0 in
     let st = stretch-of r .stretch .ensures in
-    let h = c .before .before .before .before .before .before .before .before .before .if1 .taken in
-    (way-relief k (way-stretch k (l .loop .inv .0) st (r .rounds-in .ensures)) h (st .relief h) (c .before .before .relieve-in .ensures) (c .before .gained .ensures .0) (c .count-by .ensures), l .loop .inv .1)
+    let h = c .before .before .before .before .before .before .before .before .if1 .taken in
+    (way-relief k (way-stretch k (l .loop .inv .0) st (r .rounds-in .ensures)) h (st .relief h) (c .before .ease-in .ensures) (c .count-by .ensures), l .loop .inv .1)
 
 loop-less-2 : tie.Need-loop-less-2 Inv-loop μ-loop
 loop-less-2 c =
@@ -137,8 +136,7 @@ bytes-in-spec =
     part-rounds-in-end
     rounds-in-requires
     add-moved
-    relieve-in-requires
-    gained-requires
+    ease-in-requires
     add-enlarged
     count-by-requires
     add-i

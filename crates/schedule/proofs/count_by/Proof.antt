@@ -1,19 +1,21 @@
 -- `schedule::count_by` meets its contract.
 -- Assumes nothing.
-use mathlib.Core.Path.{_∙_}
-use borrow.Author.Needs.{needs}
-use Rattle.schedule.proofs.Lent.{counted-some}
+use native.Mathlib.Omega.{arith}
+use Rattle.schedule.proofs.Lent.{counted-high, counted-low}
 use Rattle.schedule.proofs.count_by.Statement.{statement}
 use Rattle.schedule.proofs.count_by.Tie as tie
 
-returns : tie.Need-returns
-returns c = search needs
+sub-if1 : tie.Need-sub-if1
+sub-if1 c = omega arith
 
-counted-requires : tie.Need-counted-requires
-counted-requires c κs = search needs
+returns : tie.Need-returns
+returns c = counted-high _ _ (omega arith) (c .if1 .taken)
+
+add-result : tie.Need-add-result
+add-result c = omega arith
 
 returns-2 : tie.Need-returns-2
-returns-2 c = c .counted .ensures ∙ counted-some _ _ (c .before .if1 .left)
+returns-2 c = counted-low _ _ (omega arith) (c .if1 .left)
 
 pub count-by-spec : {M : Type 1} → statement M
-count-by-spec = tie.close (tie.spec returns counted-requires returns-2)
+count-by-spec = tie.close (tie.spec sub-if1 returns add-result returns-2)
