@@ -2,8 +2,7 @@
 -- Assumes nothing.
 use mathlib.Core.Bool.{Bool, true, false, cond}
 use mathlib.Core.List.{List, [], _∷_}
-use Prim.Native.Nat.{ℕ, zero, suc, _+_, _%_}
-use lib.Dec.{eqb}
+use Prim.Native.Nat.{ℕ, suc, _+_, _%_}
 use lib.ListN.{set}
 use Rattle.network.specs.declared.Network.{Network}
 use Rattle.network.specs.declared.Instruction.{Instruction}
@@ -87,21 +86,3 @@ pickAll (p ∷ ps) g = pickAll ps (pickNext p g)
 -- no pick made yet
 abbrev pub unpicked : World → Progress
 unpicked w = record { world = w; moved = 0; last = Ended; channel = 0 }
-
--- ---- rounds of picks: the picks in turn, and again after a round with a move, as often as may follow; how many more might have followed. A step on the
--- way to the driver, whose own definition (`drives/specs/Drive`) does not cite it
-pub record Rounds : Type 0 where
-  pub progress : Progress
-  pub left : ℕ
-
-abbrev pub roundsEnd : Progress → ℕ → Rounds
-roundsEnd g left = record { progress = g; left = left }
-
--- the moves of a round are counted from 0
-abbrev pub recounted : Progress → Progress
-recounted g = record { world = g .world; moved = 0; last = g .last; channel = g .channel }
-
-abbrev pub pickRounds : ℕ → List ℕ → Progress → Rounds
-pickRounds zero ps g = roundsEnd (pickAll ps g) 0
-pickRounds (suc again) ps g =
-    cond (eqb (pickAll ps g .moved) 0) (roundsEnd (pickAll ps g) (suc again)) (pickRounds again ps (recounted (pickAll ps g)))

@@ -202,10 +202,10 @@ pub fn some_wants_room(
     requires { ⌜ Relievable used (arrays (now code) (now first) (now sender) (now receiver) (now positions) (now conditions) (now capacity) (now oldest) (now held) (now closed)) ⌝ }
     ensures { λ r. ⌜ RoomsLooked used (arrays (now (code .entry)) (now (first .entry)) (now (sender .entry)) (now (receiver .entry)) (now (positions .entry)) (now (conditions .entry)) (now (capacity .entry)) (now (oldest .entry)) (now (held .entry)) (now (closed .entry))) r ⌝ }
 {
-    let mut p = 0;
-    while p < used {
+    let mut q = 0;
+    while q < used {
         let wants = wants_room_at(
-            p,
+            q,
             code,
             first,
             sender,
@@ -220,7 +220,7 @@ pub fn some_wants_room(
         if wants {
             return true;
         }
-        p += 1;
+        q += 1;
     }
     false
 }

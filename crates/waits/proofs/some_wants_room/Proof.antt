@@ -14,23 +14,23 @@ use Rattle.waits.proofs.some_wants_room.Statement.{statement}
 use Rattle.waits.proofs.some_wants_room.Tie as tie
 
 abbrev Inv-loop : tie.InvT-loop
-Inv-loop used code first sender receiver positions conditions capacity oldest held closed p₀ p =
-    (p ≤ used) × ((l : Lane) → Shows (arrays code first sender receiver positions conditions capacity oldest held closed) l → soundOf l ≡ true → used ≡ l .network .processes → someWantsRoom l p (used - p) ≡ someWantsRoom l 0 (l .network .processes))
+Inv-loop used code first sender receiver positions conditions capacity oldest held closed q₀ q =
+    (q ≤ used) × ((l : Lane) → Shows (arrays code first sender receiver positions conditions capacity oldest held closed) l → soundOf l ≡ true → used ≡ l .network .processes → someWantsRoom l q (used - q) ≡ someWantsRoom l 0 (l .network .processes))
 
 abbrev μ-loop : tie.MeasureT-loop
-μ-loop used code first sender receiver positions conditions capacity oldest held closed p₀ p = used - p
+μ-loop used code first sender receiver positions conditions capacity oldest held closed q₀ q = used - q
 
 abbrev arrays-at : tie.Start Inv-loop μ-loop → Arrays
 arrays-at c = arrays (c .args .code .now) (c .args .first .now) (c .args .sender .now) (c .args .receiver .now) (c .args .positions .now) (c .args .conditions .now) (c .args .capacity .now) (c .args .oldest .now) (c .args .held .now) (c .args .closed .now)
 
 -- the process of a turn is there
-there-at : (c : tie.In-loop Inv-loop μ-loop) → c .before .loop .p < c .before .before .pre .lane .network .processes
+there-at : (c : tie.In-loop Inv-loop μ-loop) → c .before .loop .q < c .before .before .pre .lane .network .processes
 there-at c = omega (arith, c .loop-test .taken, c .before .before .pre .count)
 
-low-at : (c : tie.In-loop Inv-loop μ-loop) → c .before .loop .p < 16
+low-at : (c : tie.In-loop Inv-loop μ-loop) → c .before .loop .q < 16
 low-at c =
     let s = c .before .before in
-    low (arrays-at s) (s .pre .lane) (s .pre .shown) (sound-says _ (s .pre .sound)) (c .before .loop .p) (there-at c)
+    low (arrays-at s) (s .pre .lane) (s .pre .shown) (sound-says _ (s .pre .sound)) (c .before .loop .q) (there-at c)
 
 loop-holds : tie.Need-loop-holds Inv-loop μ-loop
 loop-holds c = (omega arith, λ l shown sound all. ap (someWantsRoom l 0) (let e : c .args .used - 0 ≡ l .network .processes = omega arith in e))
@@ -45,8 +45,8 @@ returns c l shown sound all =
     let i = c .before .before in
     rooms-found l (i .before .loop .inv .1 l shown sound all) (i .loop-test .taken) (c .before .wants-room-at .ensures l shown sound (omega (arith, i .loop-test .taken))) (c .if1 .taken)
 
-add-p : tie.Need-add-p Inv-loop μ-loop
-add-p c = omega (arith, low-at (c .before .before))
+add-q : tie.Need-add-q Inv-loop μ-loop
+add-q c = omega (arith, low-at (c .before .before))
 
 loop-less : tie.Need-loop-less Inv-loop μ-loop
 loop-less c = omega (arith, c .before .before .loop-test .taken)
@@ -70,7 +70,7 @@ some-wants-room-spec =
     loop-holds
     wants-room-at-requires
     returns
-    add-p
+    add-q
     loop-less
     loop-again
     returns-2)
