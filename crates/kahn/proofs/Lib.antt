@@ -13,8 +13,11 @@ pub mod Allowed
 pub mod Instance
 pub mod PlainOrder
 pub mod View
-pub mod History
+pub mod Events
 pub mod Sent
+pub mod InnerRelief
+pub mod History
+pub mod Lists
 pub mod Lawful
 pub mod Theorem
 pub mod Files

@@ -1,9 +1,9 @@
--- What a list of calls sent, by document 01's words, is what its history has sent.
+-- What a call sent, by document 01's words, is what its events send.
 -- Assumes nothing.
 use mathlib.Core.Path.{_≡_, refl, sym, ap, _∙_, subst, subst⁻¹}
 use mathlib.Core.Bool.{Bool, true, false, cond, not, _&&_, and-false}
 use mathlib.Core.Option.{Option, none, some}
-use mathlib.Core.List.{List, [], _∷_, _++_, append-nil, append-assoc}
+use mathlib.Core.List.{List, [], _∷_, _++_, append-nil}
 use Prim.Native.Nat.{ℕ, _<_}
 use native.Mathlib.Omega.{arith}
 use borrow.Author.Tests.{lt-ltb, eqb-true, eqb-false, eq-eqb, ne-eqb}
@@ -22,7 +22,7 @@ use Rattle.lane.specs.State.{World, processOf}
 use Rattle.lane.specs.Pick.{instructionFor, stepFor}
 use Rattle.lane.specs.Calls.{Called, answerTo}
 use Rattle.lane.proofs.CallCases.{pick-cases, feed-cases, close-cases}
-use Rattle.kahn.specs.Calls.{Call, told, apply, wasMoved, wasAccepted, one, standsAtSend, sentBy, sent}
+use Rattle.kahn.specs.Calls.{Call, told, apply, wasMoved, wasAccepted, one, standsAtSend, sentBy}
 use Rattle.kahn.specs.Calls as calls
 use Rattle.kahn.proofs.Unbounded.{State, Act, Owns, await, act, quit, emit, seal, change, does, happen, happens}
 use Rattle.kahn.proofs.Diamond.{Each, none-some, step-moves}
@@ -33,7 +33,7 @@ use Rattle.kahn.proofs.Keeps.{Kept}
 use Rattle.kahn.proofs.Allowed.{senderIn, receiverIn, hasEnded, messageOf, want-message}
 use Rattle.kahn.proofs.Instance.{netOf, Store, machineOf, wantsIn}
 use Rattle.kahn.proofs.View.{boardOf, worldOf, answerOf}
-use Rattle.kahn.proofs.History.{eventsOf, history, Stands, stands-next, world-at, picks, happens-append}
+use Rattle.kahn.proofs.Events.{eventsOf, Stands, world-at, picks}
 
 -- a message to d, on a list of channel c
 message : (l : List ℤ) (shut owner : Bool) (c d : ℕ) (v : ℤ) → (d ≡ c → owner ≡ true) → (d ≡ c → shut ≡ false)
@@ -183,19 +183,8 @@ module _ (n : Network) (pass : passes n ≡ true) where
     sent-at (calls.take d) c = sym (append-nil (H .sent c))
     sent-at (calls.relieve buffer) c = sym (append-nil (H .sent c))
 
-  -- ---- a list of calls
-  sent-next : (k : Call) (w : World) (H : State Process ℤ) (out : ℕ → List ℤ) → Stands n pass w H out → (c : ℕ)
+  pub sent-next : (k : Call) (w : World) (H : State Process ℤ) (out : ℕ → List ℤ) → Stands n pass w H out → (c : ℕ)
       → happens (netOf n pass) (eventsOf k (apply k w .reply)) H .sent c ≡ H .sent c ++ sentBy k w c
   sent-next k w H out s c =
       subst⁻¹ (λ (x : World). happens (netOf n pass) (eventsOf k (apply k x .reply)) H .sent c ≡ H .sent c ++ sentBy k x c) (world-at n pass w (s .network))
       (sent-at (w .lane .accepted) (boardOf w) H out (s .related) k c)
-
-  pub sent-is : (ks : List Call) (w : World) (H : State Process ℤ) (out : ℕ → List ℤ) → Stands n pass w H out → (c : ℕ)
-      → happens (netOf n pass) (history ks w) H .sent c ≡ H .sent c ++ sent ks w c
-  sent-is [] w H out s c = sym (append-nil (H .sent c))
-  sent-is (k ∷ ks) w H out s c =
-      let H′ = happens (netOf n pass) (eventsOf k (apply k w .reply)) H in
-      ap (λ (T : State Process ℤ). T .sent c) (happens-append n pass (eventsOf k (apply k w .reply)) (history ks (apply k w .world)) H)
-      ∙ sent-is ks (apply k w .world) H′ _ (stands-next n pass k w H out s) c
-      ∙ ap (λ (l : List ℤ). l ++ sent ks (apply k w .world) c) (sent-next k w H out s c)
-      ∙ append-assoc (H .sent c) (sentBy k w c) (sent ks (apply k w .world) c)

@@ -28,8 +28,9 @@ use Rattle.lane.specs.Calls.{Called, answerTo, pickOf}
 use Rattle.lane.proofs.SoundLaws.{sound-says, fresh-sound}
 use Rattle.lane.proofs.CallCases.{pick-cases, take-cases}
 use Rattle.kahn.specs.Plain.{Plain, withoutCapacities, newProcess, plainAfter}
-use Rattle.kahn.specs.Calls.{Call, close, apply, after, told, wasAccepted, one, given, takenBy, taken, sent, closesBy, movedIn}
+use Rattle.kahn.specs.Calls.{Call, close, apply, told, wasAccepted, one, given, takenBy, closesBy}
 use Rattle.kahn.specs.Calls as calls
+use Rattle.kahn.specs.Steps.{Step, call, innerRelief, afterStep, takenAt, after, taken, sent, movedIn}
 use Rattle.kahn.specs.Boards.{Prefix, board, Fair, isResting, AtRest, SendsPrefix, Agrees, AgreeWith}
 use Rattle.kahn.proofs.Unbounded.{State, Event, finish, Moves, change, does, happen, happens, empty, movesOf, Legal}
 use Rattle.kahn.proofs.Diamond.{none-some}
@@ -43,8 +44,8 @@ use Rattle.kahn.proofs.Allowed.{senderIn, receiverIn}
 use Rattle.kahn.proofs.Instance.{netOf, Store, machineOf}
 use Rattle.kahn.proofs.PlainOrder.{stateOf, plain-is}
 use Rattle.kahn.proofs.View.{boardOf, worldOf, answerOf}
-use Rattle.kahn.proofs.History.{eventsOf, history, happens-append, Stands, stands-next, stands-after, moves-are, world-at, picks}
-use Rattle.kahn.proofs.Sent.{sent-is}
+use Rattle.kahn.proofs.Events.{happens-append, Stands, world-at, picks}
+use Rattle.kahn.proofs.History.{eventsAt, history, stands-step, stands-after, moves-are, sent-is}
 use Rattle.kahn.proofs.Lawful.{from-outside, fair-legal}
 
 -- ---- the start
@@ -107,9 +108,13 @@ module _ (n : Network) (pass : passes n ≡ true) where
       at there outer v false q = refl
   no-taken (calls.relieve buffer) w e c r = refl
 
-  none-taken : (ks : List Call) (w : World) (H : State Process ℤ) (out : ℕ → List ℤ) → Stands n pass w H out → (c : ℕ) → receiverIn n c ≢ 255 → taken ks w c ≡ []
+  not-taken : (s : Step) (w : World) → w .lane .network ≡ n → (c : ℕ) → receiverIn n c ≢ 255 → takenAt s w c ≡ []
+  not-taken (call k) w e c r = no-taken k w e c r
+  not-taken innerRelief w e c r = refl
+
+  none-taken : (ss : List Step) (w : World) (H : State Process ℤ) (out : ℕ → List ℤ) → Stands n pass w H out → (c : ℕ) → receiverIn n c ≢ 255 → taken ss w c ≡ []
   none-taken [] w H out s c r = refl
-  none-taken (k ∷ ks) w H out s c r = rw (no-taken k w (s .network) c r, none-taken ks (apply k w .world) _ _ (stands-next n pass k w H out s) c r)
+  none-taken (s ∷ ss) w H out t c r = rw (not-taken s w (t .network) c r, none-taken ss (afterStep s w) _ _ (stands-step n pass w H out t s) c r)
 
   -- ---- closings
   closed-by : (c : ℕ) (t : Bool) → (eqb c c && t) ≡ true → t ≡ true
@@ -119,12 +124,12 @@ module _ (n : Network) (pass : passes n ≡ true) where
   unfolding happen change
   finished t es H c e o = rw e (happens-closed (netOf n pass) es _ c (rw (eq-eqb (senderIn n c) 255 o, eq-eqb c c refl)))
 
-  was-closed : (before later : List Call) (w : World) (H : State Process ℤ) (c : ℕ) → senderIn n c ≡ 255 → closesBy (close c) (after before w) c ≡ true
-      → happens (netOf n pass) (history (before ++ (close c ∷ later)) w) H .closed c ≡ true
+  was-closed : (before later : List Step) (w : World) (H : State Process ℤ) (c : ℕ) → senderIn n c ≡ 255 → closesBy (close c) (after before w) c ≡ true
+      → happens (netOf n pass) (history (before ++ (call (close c) ∷ later)) w) H .closed c ≡ true
   was-closed [] later w H c o e = finished (wasAccepted (apply (close c) w .reply)) (history later (apply (close c) w .world)) H c (closed-by c _ e) o
-  was-closed (k ∷ before) later w H c o e =
-      ap (λ (T : State Process ℤ). T .closed c) (happens-append n pass (eventsOf k (apply k w .reply)) (history (before ++ (close c ∷ later)) (apply k w .world)) H)
-      ∙ was-closed before later (apply k w .world) _ c o e
+  was-closed (s ∷ before) later w H c o e =
+      ap (λ (T : State Process ℤ). T .closed c) (happens-append n pass (eventsAt s w) (history (before ++ (call (close c) ∷ later)) (afterStep s w)) H)
+      ∙ was-closed before later (afterStep s w) _ c o e
 
   -- ---- a process that rests does not move
   resting : (accepted : ℕ) (b : Board Store ℤ) (H : State Process ℤ) (out : ℕ → List ℤ) (R : Related (machineOf n pass) b H out) (p : ℕ)
@@ -142,76 +147,76 @@ module _ (n : Network) (pass : passes n ≡ true) where
       at WaitFull d k e = absurd (false≢true e)
       at Ended d k e = k .0
 
-  -- ---- one board with its calls
-  module _ (cells : List ℤ) (many : length cells ≡ 8192) (input : ℕ → List ℤ) (ks : List Call) (fair : Fair n input ks (board n cells)) where
+  -- ---- one board with its steps
+  module _ (cells : List ℤ) (many : length cells ≡ 8192) (input : ℕ → List ℤ) (ss : List Step) (fair : Fair n input ss (board n cells)) where
     abbrev H : State Process ℤ
-    H = happens (netOf n pass) (history ks (board n cells)) (empty (netOf n pass))
+    H = happens (netOf n pass) (history ss (board n cells)) (empty (netOf n pass))
 
     start : Stands n pass (board n cells) (empty (netOf n pass)) (λ c. [])
     start = stands-fresh cells many
 
-    end : Stands n pass (after ks (board n cells)) H (λ c. taken ks (board n cells) c)
-    end = stands-after n pass ks (board n cells) (empty (netOf n pass)) (λ c. []) start
+    end : Stands n pass (after ss (board n cells)) H (λ c. taken ss (board n cells) c)
+    end = stands-after n pass ss (board n cells) (empty (netOf n pass)) (λ c. []) start
 
-    legal : Legal (netOf n pass) input (history ks (board n cells))
-    legal = fair-legal n pass input ks (board n cells) (empty (netOf n pass)) (λ c. []) start fair
+    legal : Legal (netOf n pass) input (history ss (board n cells))
+    legal = fair-legal n pass input ss (board n cells) (empty (netOf n pass)) (λ c. []) start fair
 
-    sent-in : (c : ℕ) → H .sent c ≡ sent ks (board n cells) c
+    sent-in : (c : ℕ) → H .sent c ≡ sent ss (board n cells) c
     unfolding empty
-    sent-in c = sent-is n pass ks (board n cells) (empty (netOf n pass)) (λ c. []) start c
+    sent-in c = sent-is n pass ss (board n cells) (empty (netOf n pass)) (λ c. []) start c
 
-    enough : (r : ℕ) → movedIn ks (board n cells) ≤ r → movesOf (netOf n pass) (history ks (board n cells)) (empty (netOf n pass)) ≤ r
-    enough r h = rw (moves-are n pass ks (board n cells) (empty (netOf n pass)) (λ c. []) start) h
+    enough : (r : ℕ) → movedIn ss (board n cells) ≤ r → movesOf (netOf n pass) (history ss (board n cells)) (empty (netOf n pass)) ≤ r
+    enough r h = rw (moves-are n pass ss (board n cells) (empty (netOf n pass)) (λ c. []) start) h
 
-    takes : (c : ℕ) → Prefix (taken ks (board n cells) c) (sent ks (board n cells) c)
+    takes : (c : ℕ) → Prefix (taken ss (board n cells) c) (sent ss (board n cells) c)
     takes c = at (ℕ-discrete (receiverIn n c) 255)
       where
-        at : Dec (receiverIn n c ≡ 255) → Prefix (taken ks (board n cells) c) (sent ks (board n cells) c)
+        at : Dec (receiverIn n c ≡ 255) → Prefix (taken ss (board n cells) c) (sent ss (board n cells) c)
         at (yes e) =
             let L = end .related .lines c (machineOf n pass .receivers c (omega arith)) in
             record {
               rest = drop (L .from) (H .sent c);
               longer = sym (sent-in c) ∙ rw (L .given (omega arith) .1) (sym (take-append-drop (L .from) (H .sent c)));
             }
-        at (no e) = record { rest = sent ks (board n cells) c; longer = rw (none-taken ks (board n cells) _ _ start c e) }
+        at (no e) = record { rest = sent ss (board n cells) c; longer = rw (none-taken ss (board n cells) _ _ start c e) }
 
     -- (a)
-    pub sends-prefix : SendsPrefix n input ks (board n cells)
+    pub sends-prefix : SendsPrefix n input ss (board n cells)
     sends-prefix =
         record {
           takes = takes;
           sends = λ r h c.
-              let p = determined (netOf n pass) input (history ks (board n cells)) legal r (enough r (omega arith)) c in
+              let p = determined (netOf n pass) input (history ss (board n cells)) legal r (enough r (omega arith)) c in
               record {
                 rest = p .rest;
                 longer = ap (λ (T : State Process ℤ). T .sent c) (plain-is n pass input r) ∙ p .longer ∙ ap (λ (l : List ℤ). l ++ p .rest) (sent-in c);
               };
         }
 
-    module _ (rest : AtRest n input ks (board n cells)) where
+    module _ (rest : AtRest n input ss (board n cells)) where
       closed-all : (c : ℕ) → senderIn n c ≡ 255 → H .closed c ≡ true
       closed-all c o =
-          let k = rest .closedAll c (from-outside n c o) in
-          ap (λ (l : List Call). happens (netOf n pass) (history l (board n cells)) (empty (netOf n pass)) .closed c) (k .2)
+          let k = rest .allIn .closedAll c (from-outside n c o) in
+          ap (λ (l : List Step). happens (netOf n pass) (history l (board n cells)) (empty (netOf n pass)) .closed c) (k .2)
           ∙ was-closed (k .0) (k .1) (board n cells) (empty (netOf n pass)) c o (k .3)
 
       fed-all : (c : ℕ) → senderIn n c ≡ 255 → H .sent c ≡ input c
       fed-all c o =
-          let f = reached (netOf n pass) input (history ks (board n cells)) legal .fed in
+          let f = reached (netOf n pass) input (history ss (board n cells)) legal .fed in
           sym (append-nil (H .sent c)) ∙ ap (λ (l : List ℤ). H .sent c ++ l) (sym (f .done c o (closed-all c o))) ∙ f .fits c o
 
       still : (p : ℕ) → p < n .processes → Moves (netOf n pass) p H → ⊥
       still p l m =
-          let w : World = after ks (board n cells) in
+          let w : World = after ss (board n cells) in
           none-some (sym (resting (w .lane .accepted) (boardOf w) H _ (end .related) p
-          (subst (λ (x : World). isResting (pickOf p x .answer) ≡ true) (world-at n pass w (end .network)) (rest .resting p l))) ∙ m .1)
+          (subst (λ (x : World). isResting (pickOf p x .answer) ≡ true) (world-at n pass w (end .network)) (rest .quiet p l))) ∙ m .1)
 
-      at-rest : (r : ℕ) → movedIn ks (board n cells) ≤ r → H ≡ stateOf (plainAfter (withoutCapacities n) input r)
+      at-rest : (r : ℕ) → movedIn ss (board n cells) ≤ r → H ≡ stateOf (plainAfter (withoutCapacities n) input r)
       at-rest r h =
-          rests (netOf n pass) input (history ks (board n cells)) legal fed-all closed-all still r (enough r h) ∙ sym (plain-is n pass input r)
+          rests (netOf n pass) input (history ss (board n cells)) legal fed-all closed-all still r (enough r h) ∙ sym (plain-is n pass input r)
 
       -- (b)
-      pub agrees : (r : ℕ) → movedIn ks (board n cells) ≤ r → Agrees n input ks (board n cells) (plainAfter (withoutCapacities n) input r)
+      pub agrees : (r : ℕ) → movedIn ss (board n cells) ≤ r → Agrees n input ss (board n cells) (plainAfter (withoutCapacities n) input r)
       agrees r h =
           record {
             sends = λ c. sym (sent-in c) ∙ ap (λ (T : State Process ℤ). T .sent c) (at-rest r h);
@@ -220,14 +225,14 @@ module _ (n : Network) (pass : passes n ≡ true) where
 
 -- (c) two networks alike but for the capacities
 module _ (n₁ n₂ : Network) (pass₁ : passes n₁ ≡ true) (pass₂ : passes n₂ ≡ true) (alike : withoutCapacities n₁ ≡ withoutCapacities n₂) (input : ℕ → List ℤ) where
-  pub agree-with : (cells₁ cells₂ : List ℤ) → length cells₁ ≡ 8192 → length cells₂ ≡ 8192 → (ks₁ ks₂ : List Call)
-      → Fair n₁ input ks₁ (board n₁ cells₁) → Fair n₂ input ks₂ (board n₂ cells₂)
-      → AtRest n₁ input ks₁ (board n₁ cells₁) → AtRest n₂ input ks₂ (board n₂ cells₂)
-      → AgreeWith n₁ ks₁ ks₂ (board n₁ cells₁) (board n₂ cells₂)
-  agree-with cells₁ cells₂ m₁ m₂ ks₁ ks₂ f₁ f₂ r₁ r₂ =
-      let r : ℕ = movedIn ks₁ (board n₁ cells₁) + movedIn ks₂ (board n₂ cells₂) in
-      let a = agrees n₁ pass₁ cells₁ m₁ input ks₁ f₁ r₁ r (omega arith) in
-      let b = agrees n₂ pass₂ cells₂ m₂ input ks₂ f₂ r₂ r (omega arith) in
+  pub agree-with : (cells₁ cells₂ : List ℤ) → length cells₁ ≡ 8192 → length cells₂ ≡ 8192 → (ss₁ ss₂ : List Step)
+      → Fair n₁ input ss₁ (board n₁ cells₁) → Fair n₂ input ss₂ (board n₂ cells₂)
+      → AtRest n₁ input ss₁ (board n₁ cells₁) → AtRest n₂ input ss₂ (board n₂ cells₂)
+      → AgreeWith n₁ ss₁ ss₂ (board n₁ cells₁) (board n₂ cells₂)
+  agree-with cells₁ cells₂ m₁ m₂ ss₁ ss₂ f₁ f₂ r₁ r₂ =
+      let r : ℕ = movedIn ss₁ (board n₁ cells₁) + movedIn ss₂ (board n₂ cells₂) in
+      let a = agrees n₁ pass₁ cells₁ m₁ input ss₁ f₁ r₁ r (omega arith) in
+      let b = agrees n₂ pass₂ cells₂ m₂ input ss₂ f₂ r₂ r (omega arith) in
       let same = ap (λ (n : Network). plainAfter n input r) alike in
       let P = ap (λ (n : Network). n .processes) alike in
       record {

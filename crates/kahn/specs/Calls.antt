@@ -1,8 +1,8 @@
--- Document 01, "Lists of calls": calls with any arguments and buffers, each on what the last one left, refused or not.
+-- Document 01, "Lists of calls": a call with any arguments and buffers, and what it did, refused or not. (Lists of them: Steps.)
 -- Assumes nothing.
 use mathlib.Core.Bool.{Bool, true, false, cond, not, _&&_}
-use mathlib.Core.List.{List, [], _∷_, _++_}
-use Prim.Native.Nat.{ℕ, _+_}
+use mathlib.Core.List.{List, [], _∷_}
+use Prim.Native.Nat.{ℕ}
 use lib.Dec.{eqb}
 use lib.IntN.{ℤ}
 use Rattle.process.specs.Want.{registerOf}
@@ -45,11 +45,6 @@ apply (relieve buffer) w =
       reply = relieved (relieveOf (w .lane) buffer .answer) (relieveOf (w .lane) buffer .ring);
       world = world (relieveOf (w .lane) buffer .lane) (w .cells);
     }
-
--- "gets the lane and cells that the last one returned or left, refused or not; nobody else writes them"
-abbrev pub after : List Call → World → World
-after [] w = w
-after (k ∷ ks) w = after ks (apply k w .world)
 
 -- ---- what one call did
 abbrev pub wasMoved : Reply → Bool
@@ -130,21 +125,3 @@ closesBy (relieve buffer) w c = false
 abbrev pub countOne : Bool → ℕ
 countOne true = 1
 countOne false = 0
-
--- ---- what a list of calls did, "in the order of the calls"
-abbrev pub fed : List Call → World → ℕ → List ℤ
-fed [] w c = []
-fed (k ∷ ks) w c = fedBy k w c ++ fed ks (apply k w .world) c
-
-abbrev pub taken : List Call → World → ℕ → List ℤ
-taken [] w c = []
-taken (k ∷ ks) w c = takenBy k w c ++ taken ks (apply k w .world) c
-
-abbrev pub sent : List Call → World → ℕ → List ℤ
-sent [] w c = []
-sent (k ∷ ks) w c = sentBy k w c ++ sent ks (apply k w .world) c
-
--- "the number of picks that moved": a true count, which does not stay at a largest
-abbrev pub movedIn : List Call → World → ℕ
-movedIn [] w = 0
-movedIn (k ∷ ks) w = countOne (wasMoved (apply k w .reply)) + movedIn ks (apply k w .world)

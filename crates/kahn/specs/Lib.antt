@@ -1,4 +1,5 @@
 pub mod Plain
 pub mod Calls
+pub mod Steps
 pub mod Boards
 pub mod Theorem
