@@ -42,9 +42,9 @@ unfoldable pub files : ℕ
 unfolding fileOf firstBlock codeBlock joined crc
 files = 0
 
-unfoldable pub calls : ℕ
+unfoldable pub playing : ℕ
 unfolding bare freshOf values standsAt stepAt putBack pickIn eight stepOf execute want wantLive wrap centred residue floorOf quotientOf waitOf pointing fullWait waitsAt iter closesFrom chain firstFrom search
-calls = 0
+playing = 0
 
 -- ---- boards
 -- cells that all hold v

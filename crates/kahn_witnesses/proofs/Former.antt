@@ -28,12 +28,13 @@ use Rattle.lane.specs.Pick.{channelIn, instructionFor, putBack}
 use Rattle.lane.specs.Calls.{moved, ended, accepted, Called, called, refuse, noProcess, answerTo}
 use Rattle.lane_file.specs.File.{fileOf}
 use Rattle.lane_file.proofs.RoundTrip.{Shaped}
-use Rattle.kahn.specs.Calls.{Call, pick, feed, close, take, relieve, told, Made, made, sent}
+use Rattle.kahn.specs.Calls.{Call, pick, feed, close, take, relieve, told, Made, made}
+use Rattle.kahn.specs.Steps.{Step, calls, sent}
 use Rattle.kahn.specs.Boards.{board, Fair, AtRest, Alike}
 use Rattle.kahn.specs.Theorem.{ReadAs}
 use Rattle.kahn_witnesses.proofs.Tested.{alike-by, read-by}
 use Rattle.kahn_witnesses.proofs.Traces.{Fit, bare, seenBy, replies, replies-are, sent-is, FairOn, fair-by, WholeOn, Rests, rest-by}
-use Rattle.kahn_witnesses.proofs.Computed.{tests, files, calls, filled, many-filled, fit, only-first, one-process, Entry, _⇒_, callsOf, repliesOf}
+use Rattle.kahn_witnesses.proofs.Computed.{tests, files, playing, filled, many-filled, fit, only-first, one-process, Entry, _⇒_, callsOf, repliesOf}
 use Rattle.kahn.proofs.Whole.{any-spare-fits}
 
 -- ---- the lane: an amount comes on channel 0, half of it goes out on channel 1
@@ -91,32 +92,32 @@ fits : Fit start
 fits = fit half (filled (pos 0)) pass (many-filled (pos 0))
 
 answered : replies script start ≡ repliesOf entries
-unfolding calls
+unfolding playing
 answered = replies-are script start fits
 
-fair : Fair half input script start
-unfolding calls
+fair : Fair half input (calls script) start
+unfolding playing
 fair = fair-by script start fits half input (only-first half refl (FairOn script start fits half input) (record { feeds = record { rest = []; longer = refl }; last = refl; whole = λ e. refl }))
 
-rest : AtRest half input script start
-unfolding calls
+rest : AtRest half input (calls script) start
+unfolding playing
 rest = rest-by script start fits half input (only-first half refl (WholeOn script start fits half input) (refl, refl)) (one-process (Rests script start fits half input) refl)
 
-rounded-down : sent script start 1 ≡ negsuc 3 ∷ []
-unfolding calls
+rounded-down : sent (calls script) start 1 ≡ negsuc 3 ∷ []
+unfolding playing
 rounded-down = sent-is script start fits 1
 
--- and every other one, whatever its capacities, cells and calls
-pub all-round-down : (f : List ℕ) (n : Network) → ReadAs f n → Alike (fileOf half) f → (cells : List ℤ) → length cells ≡ 8192 → (ks : List Call)
-    → Fair n input ks (board n cells) → AtRest n input ks (board n cells) → sent ks (board n cells) 1 ≡ negsuc 3 ∷ []
-all-round-down f n r a cells many ks g h =
-    let d = any-spare-fits (fileOf half) f half n read r a (filled (pos 0)) cells (many-filled (pos 0)) many input script ks fair g in
+-- and every other one, whatever its capacities, cells and steps
+pub all-round-down : (f : List ℕ) (n : Network) → ReadAs f n → Alike (fileOf half) f → (cells : List ℤ) → length cells ≡ 8192 → (steps : List Step)
+    → Fair n input steps (board n cells) → AtRest n input steps (board n cells) → sent steps (board n cells) 1 ≡ negsuc 3 ∷ []
+all-round-down f n r a cells many steps g h =
+    let d = any-spare-fits (fileOf half) f half n read r a (filled (pos 0)) cells (many-filled (pos 0)) many input (calls script) steps fair g in
     sym (d .agree rest h .sends 1) ∙ rounded-down
 
 -- the board above is one of these
-one-of-these : sent script start 1 ≡ negsuc 3 ∷ []
+one-of-these : sent (calls script) start 1 ≡ negsuc 3 ∷ []
 unfolding files
-one-of-these = all-round-down (fileOf half) half read (alike-by (fileOf half) (fileOf half) refl) (filled (pos 0)) (many-filled (pos 0)) script fair rest
+one-of-these = all-round-down (fileOf half) half read (alike-by (fileOf half) (fileOf half) refl) (filled (pos 0)) (many-filled (pos 0)) (calls script) fair rest
 
 -- ---- a board from before: at a 6 the quotient is cut toward zero, at a 7 the remainder has the dividend's sign, all else is as in these rules. Its
 -- calls after the tests 15 and 16
@@ -148,22 +149,22 @@ former (relieve buffer) w = bare (relieve buffer) w
 
 -- the same calls get the same answers, all input is in and closed, a further pick would answer ended ..
 former-answered : seenBy former 1 script start .replies ≡ repliesOf entries
-unfolding calls
+unfolding playing
 former-answered = refl
 
 former-fed : seenBy former 0 script start .fed ≡ input 0
-unfolding calls
+unfolding playing
 former-fed = refl
 
 former-closed : seenBy former 0 script start .shut ≡ true
-unfolding calls
+unfolding playing
 former-closed = refl
 
 former-rests : former (pick 0) (seenBy former 1 script start .left) .reply ≡ told ended
-unfolding calls
+unfolding playing
 former-rests = refl
 
 -- .. and another value went out
 pub former-differs : seenBy former 1 script start .sent ≡ negsuc 2 ∷ []
-unfolding calls
+unfolding playing
 former-differs = refl

@@ -1,4 +1,4 @@
--- What a list of calls did, by computation. The tests 15 and 16 of a call pass on every lane that calls leave, so they are shown once, by the law
+-- What a list of calls did, as steps, by computation. The tests 15 and 16 of a call pass on every lane that calls leave, so they are shown once, by the law
 -- that soundness is kept, and what is computed is the call after them.
 -- Assumes nothing.
 use mathlib.Core.Path.{_≡_, refl, sym, ap, _∙_, subst, subst⁻¹}
@@ -21,9 +21,10 @@ use Rattle.lane.proofs.Shape.{Shaped}
 use Rattle.lane.proofs.SoundLaws.{implied}
 use Rattle.relief.specs.Relief.{Relief, foundIn, settled, relieveOf}
 use Rattle.kahn.specs.Plain.{fromOutside}
-use Rattle.kahn.specs.Calls.{Call, pick, feed, close, take, relieve, Reply, relieved, Made, made, apply, after, wasMoved, wasAccepted, one, standsAtSend, closesBy, countOne, fedBy, fed, taken, sent, movedIn}
+use Rattle.kahn.specs.Calls.{Call, pick, feed, close, take, relieve, Reply, relieved, Made, made, apply, wasMoved, wasAccepted, one, standsAtSend, closesBy, countOne}
+use Rattle.kahn.specs.Steps.{Step, call, innerRelief, calls, afterStep, fedAt, after, fed, taken, sent, movedIn}
 use Rattle.kahn.specs.Boards.{Prefix, Fair, isResting, WasClosed, AtRest}
-use Rattle.kahn.proofs.History.{givenOf, apply-kept}
+use Rattle.kahn.proofs.Events.{givenOf, apply-kept}
 
 -- ---- one call
 -- a lane and its cells that pass the tests 15 and 16
@@ -127,30 +128,35 @@ seenBy f c (k ∷ ks) w = more c k w (f k w .reply) (seenBy f c ks (f k w .world
 abbrev pub computed : ℕ → List Call → World → Seen
 computed c ks w = seenBy bare c ks w
 
--- the same in the words of specs/Calls.antt
+-- the same in the words of specs/Calls.antt and Steps.antt
 abbrev pub replies : List Call → World → List Reply
 replies [] w = []
 replies (k ∷ ks) w = apply k w .reply ∷ replies ks (apply k w .world)
 
-abbrev wasShut : List Call → World → ℕ → Bool
-wasShut [] w c = false
-wasShut (k ∷ ks) w c = closesBy k w c || wasShut ks (apply k w .world) c
+-- a step is an accepted closing of channel c; some step of a list is; none after it fed that channel
+abbrev closesAt : Step → World → ℕ → Bool
+closesAt (call k) w c = closesBy k w c
+closesAt innerRelief w c = false
 
-abbrev shutLast : List Call → World → ℕ → Bool
+abbrev wasShut : List Step → World → ℕ → Bool
+wasShut [] w c = false
+wasShut (s ∷ ss) w c = closesAt s w c || wasShut ss (afterStep s w) c
+
+abbrev shutLast : List Step → World → ℕ → Bool
 shutLast [] w c = true
-shutLast (k ∷ ks) w c = (not (closesBy k w c) || none (fed ks (apply k w .world) c)) && shutLast ks (apply k w .world) c
+shutLast (s ∷ ss) w c = (not (closesAt s w c) || none (fed ss (afterStep s w) c)) && shutLast ss (afterStep s w) c
 
 abbrev said : ℕ → List Call → World → Seen
 said c ks w =
     record {
-      left = after ks w;
+      left = after (calls ks) w;
       replies = replies ks w;
-      fed = fed ks w c;
-      taken = taken ks w c;
-      sent = sent ks w c;
-      moved = movedIn ks w;
-      shut = wasShut ks w c;
-      last = shutLast ks w c;
+      fed = fed (calls ks) w c;
+      taken = taken (calls ks) w c;
+      sent = sent (calls ks) w c;
+      moved = movedIn (calls ks) w;
+      shut = wasShut (calls ks) w c;
+      last = shutLast (calls ks) w c;
     }
 
 said-is : (c : ℕ) (ks : List Call) (w : World) → said c ks w ≡ seenBy apply c ks w
@@ -177,39 +183,40 @@ either true b e = refl
 either false b e = e
 
 -- an accepted closing of channel c is a call `close c`
-closing : (k : Call) (w : World) (c : ℕ) → closesBy k w c ≡ true → k ≡ close c
-closing (pick p) w c e = absurd (false≢true e)
-closing (feed d v) w c e = absurd (false≢true e)
-closing (close d) w c e = ap close (eqb-true d c (both-true (eqb d c) _ e .0))
-closing (take d) w c e = absurd (false≢true e)
-closing (relieve buffer) w c e = absurd (false≢true e)
+closing : (s : Step) (w : World) (c : ℕ) → closesAt s w c ≡ true → s ≡ call (close c)
+closing (call (pick p)) w c e = absurd (false≢true e)
+closing (call (feed d v)) w c e = absurd (false≢true e)
+closing (call (close d)) w c e = ap (λ (x : ℕ). call (close x)) (eqb-true d c (both-true (eqb d c) _ e .0))
+closing (call (take d)) w c e = absurd (false≢true e)
+closing (call (relieve buffer)) w c e = absurd (false≢true e)
+closing innerRelief w c e = absurd (false≢true e)
 
 -- some closing was accepted, and where
-was-closed : (ks : List Call) (w : World) (c : ℕ) → wasShut ks w c ≡ true → WasClosed ks w c
+was-closed : (ss : List Step) (w : World) (c : ℕ) → wasShut ss w c ≡ true → WasClosed ss w c
 was-closed [] w c e = absurd (false≢true e)
-was-closed (k ∷ ks) w c e = at (closesBy k w c) refl e (was-closed ks (apply k w .world) c)
+was-closed (s ∷ ss) w c e = at (closesAt s w c) refl e (was-closed ss (afterStep s w) c)
   where
-    at : (t : Bool) → closesBy k w c ≡ t → (t || wasShut ks (apply k w .world) c) ≡ true
-        → (wasShut ks (apply k w .world) c ≡ true → WasClosed ks (apply k w .world) c) → WasClosed (k ∷ ks) w c
+    at : (t : Bool) → closesAt s w c ≡ t → (t || wasShut ss (afterStep s w) c) ≡ true
+        → (wasShut ss (afterStep s w) c ≡ true → WasClosed ss (afterStep s w) c) → WasClosed (s ∷ ss) w c
     at true q e later =
-        let d = closing k w c q in
-        ([], ks, ap (λ (x : Call). x ∷ ks) d, subst (λ (x : Call). closesBy x w c ≡ true) d q)
-    at false q e later = let l = later e in (k ∷ l .0, l .1, ap (λ (x : List Call). k ∷ x) (l .2), l .3)
+        let d = closing s w c q in
+        ([], ss, ap (λ (x : Step). x ∷ ss) d, subst (λ (x : Step). closesAt x w c ≡ true) d q)
+    at false q e later = let l = later e in (s ∷ l .0, l .1, ap (λ (x : List Step). s ∷ x) (l .2), l .3)
 
-closed-shut : (c : ℕ) (before later : List Call) (w : World) → closesBy (close c) (after before w) c ≡ true → wasShut (before ++ (close c ∷ later)) w c ≡ true
+closed-shut : (c : ℕ) (before later : List Step) (w : World) → closesBy (close c) (after before w) c ≡ true → wasShut (before ++ (call (close c) ∷ later)) w c ≡ true
 closed-shut c [] later w e = ap (λ (t : Bool). t || wasShut later (apply (close c) w .world) c) e
-closed-shut c (k ∷ before) later w e = either (closesBy k w c) _ (closed-shut c before later (apply k w .world) e)
+closed-shut c (s ∷ before) later w e = either (closesAt s w c) _ (closed-shut c before later (afterStep s w) e)
 
 -- what was fed before an accepted closing is all that was fed
-fed-before : (c : ℕ) (before later : List Call) (w : World) → shutLast (before ++ (close c ∷ later)) w c ≡ true
-    → closesBy (close c) (after before w) c ≡ true → fed before w c ≡ fed (before ++ (close c ∷ later)) w c
+fed-before : (c : ℕ) (before later : List Step) (w : World) → shutLast (before ++ (call (close c) ∷ later)) w c ≡ true
+    → closesBy (close c) (after before w) c ≡ true → fed before w c ≡ fed (before ++ (call (close c) ∷ later)) w c
 fed-before c [] later w e closes =
     sym (none-is _ (implied (closesBy (close c) w c) (none (fed later (apply (close c) w .world) c)) (both-true _ _ e .0) closes))
-fed-before c (k ∷ before) later w e closes =
-    let w′ : World = apply k w .world in
-    let later′ : List Call = before ++ (close c ∷ later) in
-    ap (λ (l : List ℤ). fedBy k w c ++ l)
-    (fed-before c before later w′ (both-true (not (closesBy k w c) || none (fed later′ w′ c)) (shutLast later′ w′ c) e .1) closes)
+fed-before c (s ∷ before) later w e closes =
+    let w′ : World = afterStep s w in
+    let later′ : List Step = before ++ (call (close c) ∷ later) in
+    ap (λ (l : List ℤ). fedAt s w c ++ l)
+    (fed-before c before later w′ (both-true (not (closesAt s w c) || none (fed later′ w′ c)) (shutLast later′ w′ c) e .1) closes)
 
 -- ---- the facts of demand 3, from what is computed
 module _ (ks : List Call) (w : World) (f : Fit w) where
@@ -219,22 +226,22 @@ module _ (ks : List Call) (w : World) (f : Fit w) where
   pub replies-are : replies ks w ≡ computed 0 ks w .replies
   replies-are = ap (λ (s : Seen). s .replies) (seen 0)
 
-  pub moved-is : movedIn ks w ≡ computed 0 ks w .moved
+  pub moved-is : movedIn (calls ks) w ≡ computed 0 ks w .moved
   moved-is = ap (λ (s : Seen). s .moved) (seen 0)
 
-  pub left-is : after ks w ≡ computed 0 ks w .left
+  pub left-is : after (calls ks) w ≡ computed 0 ks w .left
   left-is = ap (λ (s : Seen). s .left) (seen 0)
 
-  pub fed-is : (c : ℕ) → fed ks w c ≡ computed c ks w .fed
+  pub fed-is : (c : ℕ) → fed (calls ks) w c ≡ computed c ks w .fed
   fed-is c = ap (λ (s : Seen). s .fed) (seen c)
 
-  pub taken-is : (c : ℕ) → taken ks w c ≡ computed c ks w .taken
+  pub taken-is : (c : ℕ) → taken (calls ks) w c ≡ computed c ks w .taken
   taken-is c = ap (λ (s : Seen). s .taken) (seen c)
 
-  pub sent-is : (c : ℕ) → sent ks w c ≡ computed c ks w .sent
+  pub sent-is : (c : ℕ) → sent (calls ks) w c ≡ computed c ks w .sent
   sent-is c = ap (λ (s : Seen). s .sent) (seen c)
 
-  fit-left : Fit (after ks w)
+  fit-left : Fit (after (calls ks) w)
   fit-left = rw left-is (go ks w f)
     where
       go : (ks : List Call) (w : World) → Fit w → Fit (computed 0 ks w .left)
@@ -248,15 +255,15 @@ module _ (ks : List Call) (w : World) (f : Fit w) where
       pub last : computed c ks w .last ≡ true
       pub whole : computed c ks w .shut ≡ true → computed c ks w .fed ≡ input c
 
-    pub fair-by : ((c : ℕ) → fromOutside n c ≡ true → FairOn c) → Fair n input ks w
+    pub fair-by : ((c : ℕ) → fromOutside n c ≡ true → FairOn c) → Fair n input (calls ks) w
     fair-by h =
         record {
           feeds = λ c o. subst⁻¹ (λ (l : List ℤ). Prefix l (input c)) (fed-is c) (h c o .feeds);
           closings = λ c before later o e closes.
-              let last : shutLast ks w c ≡ true = ap (λ (s : Seen). s .last) (seen c) ∙ h c o .last in
-              let shut : computed c ks w .shut ≡ true = ap (λ (s : Seen). s .shut) (sym (seen c)) ∙ ap (λ (l : List Call). wasShut l w c) e ∙ closed-shut c before later w closes in
-              fed-before c before later w (sym (ap (λ (l : List Call). shutLast l w c) e) ∙ last) closes
-              ∙ ap (λ (l : List Call). fed l w c) (sym e)
+              let last : shutLast (calls ks) w c ≡ true = ap (λ (s : Seen). s .last) (seen c) ∙ h c o .last in
+              let shut : computed c ks w .shut ≡ true = ap (λ (s : Seen). s .shut) (sym (seen c)) ∙ ap (λ (l : List Step). wasShut l w c) e ∙ closed-shut c before later w closes in
+              fed-before c before later w (sym (ap (λ (l : List Step). shutLast l w c) e) ∙ last) closes
+              ∙ ap (λ (l : List Step). fed l w c) (sym e)
               ∙ fed-is c
               ∙ h c o .whole shut;
         }
@@ -269,13 +276,15 @@ module _ (ks : List Call) (w : World) (f : Fit w) where
     abbrev pub Rests : ℕ → Type 0
     Rests p = isResting (pickBare p (computed 0 ks w .left) .answer) ≡ true
 
-    pub rest-by : ((c : ℕ) → fromOutside n c ≡ true → WholeOn c) → ((p : ℕ) → p < n .processes → Rests p) → AtRest n input ks w
+    pub rest-by : ((c : ℕ) → fromOutside n c ≡ true → WholeOn c) → ((p : ℕ) → p < n .processes → Rests p) → AtRest n input (calls ks) w
     rest-by h q =
         record {
-          fedAll = λ c o. fed-is c ∙ h c o .0;
-          closedAll = λ c o. was-closed ks w c (ap (λ (s : Seen). s .shut) (seen c) ∙ h c o .1);
-          resting = λ p l.
-              ap (λ (m : lane.Called). isResting (m .answer)) (pick-bare p (after ks w) fit-left)
+          allIn = record {
+            fedAll = λ c o. fed-is c ∙ h c o .0;
+            closedAll = λ c o. was-closed (calls ks) w c (ap (λ (s : Seen). s .shut) (seen c) ∙ h c o .1);
+          };
+          quiet = λ p l.
+              ap (λ (m : lane.Called). isResting (m .answer)) (pick-bare p (after (calls ks) w) fit-left)
               ∙ ap (λ (x : World). isResting (pickBare p x .answer)) left-is
               ∙ q p l;
         }

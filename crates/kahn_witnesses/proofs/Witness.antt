@@ -19,13 +19,14 @@ use Rattle.lane_file.specs.File.{fileOf}
 use Rattle.lane_file.proofs.RoundTrip.{Shaped}
 use Rattle.lane_file.proofs.Witness.{program, withCapacity as sample, shaped}
 use Rattle.kahn.specs.Plain.{fromOutside, withoutCapacities, plainAfter}
-use Rattle.kahn.specs.Calls.{Call, pick, feed, close, take, relieve, told, relieved, after, taken, sent, movedIn}
+use Rattle.kahn.specs.Calls.{Call, pick, feed, close, take, relieve, told, relieved}
+use Rattle.kahn.specs.Steps.{calls, after, taken, sent, movedIn}
 use Rattle.kahn.specs.Boards.{board, Fair, AtRest, Alike, AgreeWith}
 use Rattle.kahn.specs.Theorem.{ReadAs, Determined}
 use Rattle.kahn.proofs.InTurn.{plain, process, input}
 use Rattle.kahn_witnesses.proofs.Tested.{alike-by, read-by}
 use Rattle.kahn_witnesses.proofs.Traces.{Fit, replies, replies-are, moved-is, sent-is, taken-is, left-is, FairOn, fair-by, WholeOn, Rests, rest-by}
-use Rattle.kahn_witnesses.proofs.Computed.{tests, files, calls, filled, many-filled, fit, outside-says, only-first, one-process, Entry, _⇒_, callsOf, repliesOf}
+use Rattle.kahn_witnesses.proofs.Computed.{tests, files, playing, filled, many-filled, fit, outside-says, only-first, one-process, Entry, _⇒_, callsOf, repliesOf}
 use Rattle.kahn.proofs.Whole.{any-spare-fits}
 
 -- ==== document 01's sample lane, with capacities 1 and 2: one process, channel 0 in, 1 out; each message is doubled
@@ -59,11 +60,11 @@ unfolding files
 byte₂ = refl
 
 -- what is left to compute, on channel 0 and of process 0
-sample-fair : (k : ℕ) (ks : List Call) (w : World) (f : Fit w) → FairOn ks w f (sample k) input 0 → Fair (sample k) input ks w
+sample-fair : (k : ℕ) (ks : List Call) (w : World) (f : Fit w) → FairOn ks w f (sample k) input 0 → Fair (sample k) input (calls ks) w
 sample-fair k ks w f h = fair-by ks w f (sample k) input (only-first (sample k) refl (FairOn ks w f (sample k) input) h)
 
 sample-rest : (k : ℕ) (ks : List Call) (w : World) (f : Fit w) → WholeOn ks w f (sample k) input 0 → Rests ks w f (sample k) input 0
-    → AtRest (sample k) input ks w
+    → AtRest (sample k) input (calls ks) w
 sample-rest k ks w f h q =
     rest-by ks w f (sample k) input (only-first (sample k) refl (WholeOn ks w f (sample k) input) h) (one-process (Rests ks w f (sample k) input) q)
 
@@ -111,50 +112,50 @@ fit₁ : Fit w₁
 fit₁ = fit (sample 1) cells₁ pass₁ many₁
 
 answered₁ : replies calls₁ w₁ ≡ repliesOf entries₁
-unfolding calls
+unfolding playing
 answered₁ = replies-are calls₁ w₁ fit₁
 
-fair₁ : Fair (sample 1) input calls₁ w₁
-unfolding calls
+fair₁ : Fair (sample 1) input (calls calls₁) w₁
+unfolding playing
 fair₁ = sample-fair 1 calls₁ w₁ fit₁ (record { feeds = record { rest = []; longer = refl }; last = refl; whole = λ e. refl })
 
-rest₁ : AtRest (sample 1) input calls₁ w₁
-unfolding calls
+rest₁ : AtRest (sample 1) input (calls calls₁) w₁
+unfolding playing
 rest₁ = sample-rest 1 calls₁ w₁ fit₁ (refl, refl) refl
 
-moved₁ : movedIn calls₁ w₁ ≡ 10
-unfolding calls
+moved₁ : movedIn (calls calls₁) w₁ ≡ 10
+unfolding playing
 moved₁ = moved-is calls₁ w₁ fit₁
 
-sent₁ : sent calls₁ w₁ 1 ≡ pos 10 ∷ negsuc 5 ∷ []
-unfolding calls
+sent₁ : sent (calls calls₁) w₁ 1 ≡ pos 10 ∷ negsuc 5 ∷ []
+unfolding playing
 sent₁ = sent-is calls₁ w₁ fit₁ 1
 
-taken₁ : taken calls₁ w₁ 1 ≡ pos 10 ∷ negsuc 5 ∷ []
-unfolding calls
+taken₁ : taken (calls calls₁) w₁ 1 ≡ pos 10 ∷ negsuc 5 ∷ []
+unfolding playing
 taken₁ = taken-is calls₁ w₁ fit₁ 1
 
-process₁ : processOf (after calls₁ w₁ .lane) 0 ≡ process (negsuc 5) (pos 0) 4 Stopped 10
-unfolding calls
+process₁ : processOf (after (calls calls₁) w₁ .lane) 0 ≡ process (negsuc 5) (pos 0) 4 Stopped 10
+unfolding playing
 process₁ = ap (λ (w : World). processOf (w .lane) 0) (left-is calls₁ w₁ fit₁)
 
 -- ---- half way: the feeds are a proper beginning of the input, nothing is closed, and what was sent is a proper beginning
 abbrev half : List Call
 half = feed 0 (pos 5) ∷ pick 0 ∷ pick 0 ∷ pick 0 ∷ []
 
-half-fair : Fair (sample 1) input half w₁
-unfolding calls
+half-fair : Fair (sample 1) input (calls half) w₁
+unfolding playing
 half-fair =
     sample-fair 1 half w₁ fit₁
     (record { feeds = record { rest = negsuc 2 ∷ []; longer = refl }; last = refl; whole = λ e. absurd (false≢true e) })
 
-half-sent : sent half w₁ 1 ≡ pos 10 ∷ []
-unfolding calls
+half-sent : sent (calls half) w₁ 1 ≡ pos 10 ∷ []
+unfolding playing
 half-sent = sent-is half w₁ fit₁ 1
 
 -- no fewer rounds would do: three picks moved, and in two rounds the plain order has sent nothing
-half-moved : movedIn half w₁ ≡ 3
-unfolding calls
+half-moved : movedIn (calls half) w₁ ≡ 3
+unfolding playing
 half-moved = moved-is half w₁ fit₁
 
 two-rounds : plainAfter (withoutCapacities (sample 1)) input 2 .sent 1 ≡ []
@@ -202,31 +203,31 @@ fit₂ : Fit w₂
 fit₂ = fit (sample 2) cells₂ pass₂ many₂
 
 answered₂ : replies calls₂ w₂ ≡ repliesOf entries₂
-unfolding calls
+unfolding playing
 answered₂ = replies-are calls₂ w₂ fit₂
 
-fair₂ : Fair (sample 2) input calls₂ w₂
-unfolding calls
+fair₂ : Fair (sample 2) input (calls calls₂) w₂
+unfolding playing
 fair₂ = sample-fair 2 calls₂ w₂ fit₂ (record { feeds = record { rest = []; longer = refl }; last = refl; whole = λ e. refl })
 
-rest₂ : AtRest (sample 2) input calls₂ w₂
-unfolding calls
+rest₂ : AtRest (sample 2) input (calls calls₂) w₂
+unfolding playing
 rest₂ = sample-rest 2 calls₂ w₂ fit₂ (refl, refl) refl
 
-sent₂ : sent calls₂ w₂ 1 ≡ pos 10 ∷ negsuc 5 ∷ []
-unfolding calls
+sent₂ : sent (calls calls₂) w₂ 1 ≡ pos 10 ∷ negsuc 5 ∷ []
+unfolding playing
 sent₂ = sent-is calls₂ w₂ fit₂ 1
 
 -- ---- the theorem at these files, cells, input and calls
-sample-fits : Determined (sample 1) (sample 2) input calls₁ calls₂ w₁ w₂
+sample-fits : Determined (sample 1) (sample 2) input (calls calls₁) (calls calls₂) w₁ w₂
 sample-fits =
-    any-spare-fits (fileOf (sample 1)) (fileOf (sample 2)) (sample 1) (sample 2) read₁ read₂ alike cells₁ cells₂ many₁ many₂ input calls₁ calls₂ fair₁ fair₂
+    any-spare-fits (fileOf (sample 1)) (fileOf (sample 2)) (sample 1) (sample 2) read₁ read₂ alike cells₁ cells₂ many₁ many₂ input (calls calls₁) (calls calls₂) fair₁ fair₂
 
-half-fits : Determined (sample 1) (sample 2) input half calls₂ w₁ w₂
+half-fits : Determined (sample 1) (sample 2) input (calls half) (calls calls₂) w₁ w₂
 half-fits =
-    any-spare-fits (fileOf (sample 1)) (fileOf (sample 2)) (sample 1) (sample 2) read₁ read₂ alike cells₁ cells₂ many₁ many₂ input half calls₂ half-fair fair₂
+    any-spare-fits (fileOf (sample 1)) (fileOf (sample 2)) (sample 1) (sample 2) read₁ read₂ alike cells₁ cells₂ many₁ many₂ input (calls half) (calls calls₂) half-fair fair₂
 
-sample-agrees : AgreeWith (sample 1) calls₁ calls₂ w₁ w₂
+sample-agrees : AgreeWith (sample 1) (calls calls₁) (calls calls₂) w₁ w₂
 sample-agrees = sample-fits .agree rest₁ rest₂
 
 -- and the plain order, computed: "out 1 10, out 1 -6, end 1, proc 0 stop 10"
@@ -242,8 +243,8 @@ plain-process = refl
 abbrev unclosed : List Call
 unclosed = firstOf 15 calls₁
 
-unclosed-process : processOf (after unclosed w₁ .lane) 0 ≡ process (negsuc 5) (pos 0) 0 Live 8
-unfolding calls
+unclosed-process : processOf (after (calls unclosed) w₁ .lane) 0 ≡ process (negsuc 5) (pos 0) 0 Live 8
+unfolding playing
 unclosed-process = ap (λ (w : World). processOf (w .lane) 0) (left-is unclosed w₁ fit₁)
 
 -- ==== one process with a channel to itself: it sends 1 twice, receives once, closes the channel, and faults at a third sending, of what it keeps
@@ -300,10 +301,10 @@ inside k P c o =
 abbrev silent : ℕ → List ℤ
 silent c = []
 
-own-fair : (k : ℕ) (ks : List Call) (w : World) → Fit w → Fair (own k) silent ks w
+own-fair : (k : ℕ) (ks : List Call) (w : World) → Fit w → Fair (own k) silent (calls ks) w
 own-fair k ks w f = fair-by ks w f (own k) silent (inside k (FairOn ks w f (own k) silent))
 
-own-rest : (k : ℕ) (ks : List Call) (w : World) (f : Fit w) → Rests ks w f (own k) silent 0 → AtRest (own k) silent ks w
+own-rest : (k : ℕ) (ks : List Call) (w : World) (f : Fit w) → Rests ks w f (own k) silent 0 → AtRest (own k) silent (calls ks) w
 own-rest k ks w f q = rest-by ks w f (own k) silent (inside k (WholeOn ks w f (own k) silent)) (one-process (Rests ks w f (own k) silent) q)
 
 -- ---- capacity 1: the process waits on itself for room; relief is refused before, and with too short a buffer, and then enlarges
@@ -332,27 +333,27 @@ fit₃ : Fit w₃
 fit₃ = fit (own 1) cells₁ pass₃ many₁
 
 answered₃ : replies calls₃ w₃ ≡ repliesOf entries₃
-unfolding calls
+unfolding playing
 answered₃ = replies-are calls₃ w₃ fit₃
 
-fair₃ : Fair (own 1) silent calls₃ w₃
+fair₃ : Fair (own 1) silent (calls calls₃) w₃
 fair₃ = own-fair 1 calls₃ w₃ fit₃
 
-rest₃ : AtRest (own 1) silent calls₃ w₃
-unfolding calls
+rest₃ : AtRest (own 1) silent (calls calls₃) w₃
+unfolding playing
 rest₃ = own-rest 1 calls₃ w₃ fit₃ refl
 
-sent₃ : sent calls₃ w₃ 0 ≡ pos 1 ∷ pos 1 ∷ []
-unfolding calls
+sent₃ : sent (calls calls₃) w₃ 0 ≡ pos 1 ∷ pos 1 ∷ []
+unfolding playing
 sent₃ = sent-is calls₃ w₃ fit₃ 0
 
-process₃ : processOf (after calls₃ w₃ .lane) 0 ≡ process (pos 1) (pos 1) 5 Faulted 6
-unfolding calls
+process₃ : processOf (after (calls calls₃) w₃ .lane) 0 ≡ process (pos 1) (pos 1) 5 Faulted 6
+unfolding playing
 process₃ = ap (λ (w : World). processOf (w .lane) 0) (left-is calls₃ w₃ fit₃)
 
 -- the channel has grown
-grown₃ : channelOf (after calls₃ w₃ .lane) 0 .capacity ≡ 2
-unfolding calls
+grown₃ : channelOf (after (calls calls₃) w₃ .lane) 0 .capacity ≡ 2
+unfolding playing
 grown₃ = ap (λ (w : World). channelOf (w .lane) 0 .capacity) (left-is calls₃ w₃ fit₃)
 
 -- ---- capacity 2: nothing waits
@@ -377,26 +378,26 @@ fit₄ : Fit w₄
 fit₄ = fit (own 2) cells₂ pass₄ many₂
 
 answered₄ : replies calls₄ w₄ ≡ repliesOf entries₄
-unfolding calls
+unfolding playing
 answered₄ = replies-are calls₄ w₄ fit₄
 
-fair₄ : Fair (own 2) silent calls₄ w₄
+fair₄ : Fair (own 2) silent (calls calls₄) w₄
 fair₄ = own-fair 2 calls₄ w₄ fit₄
 
-rest₄ : AtRest (own 2) silent calls₄ w₄
-unfolding calls
+rest₄ : AtRest (own 2) silent (calls calls₄) w₄
+unfolding playing
 rest₄ = own-rest 2 calls₄ w₄ fit₄ refl
 
-sent₄ : sent calls₄ w₄ 0 ≡ pos 1 ∷ pos 1 ∷ []
-unfolding calls
+sent₄ : sent (calls calls₄) w₄ 0 ≡ pos 1 ∷ pos 1 ∷ []
+unfolding playing
 sent₄ = sent-is calls₄ w₄ fit₄ 0
 
 -- ---- the theorem at these
-own-fits : Determined (own 1) (own 2) silent calls₃ calls₄ w₃ w₄
+own-fits : Determined (own 1) (own 2) silent (calls calls₃) (calls calls₄) w₃ w₄
 own-fits =
-    any-spare-fits (fileOf (own 1)) (fileOf (own 2)) (own 1) (own 2) read₃ read₄ own-alike cells₁ cells₂ many₁ many₂ silent calls₃ calls₄ fair₃ fair₄
+    any-spare-fits (fileOf (own 1)) (fileOf (own 2)) (own 1) (own 2) read₃ read₄ own-alike cells₁ cells₂ many₁ many₂ silent (calls calls₃) (calls calls₄) fair₃ fair₄
 
-own-agrees : AgreeWith (own 1) calls₃ calls₄ w₃ w₄
+own-agrees : AgreeWith (own 1) (calls calls₃) (calls calls₄) w₃ w₄
 own-agrees = own-fits .agree rest₃ rest₄
 
 own-plain-sent : plainAfter (withoutCapacities (own 1)) silent 6 .sent 0 ≡ pos 1 ∷ pos 1 ∷ []
@@ -411,6 +412,6 @@ own-plain-process = refl
 abbrev stuck : List Call
 stuck = firstOf 4 calls₃
 
-stuck-process : processOf (after stuck w₃ .lane) 0 ≡ process (pos 1) (pos 0) 2 Live 2
-unfolding calls
+stuck-process : processOf (after (calls stuck) w₃ .lane) 0 ≡ process (pos 1) (pos 0) 2 Live 2
+unfolding playing
 stuck-process = ap (λ (w : World). processOf (w .lane) 0) (left-is stuck w₃ fit₃)

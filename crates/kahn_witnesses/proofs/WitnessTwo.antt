@@ -15,13 +15,14 @@ use Rattle.lane.specs.Calls.{moved, waitingEmpty, waitingFull, ended, accepted,
 use Rattle.lane_file.specs.File.{fileOf}
 use Rattle.lane_file.proofs.RoundTrip.{Shaped}
 use Rattle.kahn.specs.Plain.{withoutCapacities, plainAfter}
-use Rattle.kahn.specs.Calls.{Call, pick, feed, close, take, told, after, sent, movedIn}
+use Rattle.kahn.specs.Calls.{Call, pick, feed, close, take, told}
+use Rattle.kahn.specs.Steps.{calls, after, sent, movedIn}
 use Rattle.kahn.specs.Boards.{board, Fair, AtRest, Alike, AgreeWith}
 use Rattle.kahn.specs.Theorem.{ReadAs, Holds, Determined}
 use Rattle.kahn.proofs.InTurn.{plain, process, passesOn, addsUp, relay, input}
 use Rattle.kahn_witnesses.proofs.Tested.{alike-by, read-by}
 use Rattle.kahn_witnesses.proofs.Traces.{Fit, replies, replies-are, moved-is, sent-is, left-is, FairOn, fair-by, WholeOn, Rests, rest-by}
-use Rattle.kahn_witnesses.proofs.Computed.{tests, files, calls, filled, many-filled, fit, only-first, Entry, _⇒_, callsOf, repliesOf}
+use Rattle.kahn_witnesses.proofs.Computed.{tests, files, playing, filled, many-filled, fit, only-first, Entry, _⇒_, callsOf, repliesOf}
 use Rattle.kahn.proofs.Whole.{one-board-holds, any-spare-fits}
 
 -- ---- the two files
@@ -54,11 +55,11 @@ both P g h (suc zero) l = h
 both P g h (suc (suc p)) l = absurd (omega arith)
 
 -- what is left to compute, on channel 0 and of processes 0 and 1
-relay-fair : (k : ℕ) (ks : List Call) (w : World) (f : Fit w) → FairOn ks w f (relay k) input 0 → Fair (relay k) input ks w
+relay-fair : (k : ℕ) (ks : List Call) (w : World) (f : Fit w) → FairOn ks w f (relay k) input 0 → Fair (relay k) input (calls ks) w
 relay-fair k ks w f h = fair-by ks w f (relay k) input (only-first (relay k) refl (FairOn ks w f (relay k) input) h)
 
 relay-rest : (k : ℕ) (ks : List Call) (w : World) (f : Fit w) → WholeOn ks w f (relay k) input 0 → Rests ks w f (relay k) input 0
-    → Rests ks w f (relay k) input 1 → AtRest (relay k) input ks w
+    → Rests ks w f (relay k) input 1 → AtRest (relay k) input (calls ks) w
 relay-rest k ks w f h q r =
     rest-by ks w f (relay k) input (only-first (relay k) refl (WholeOn ks w f (relay k) input) h) (both (Rests ks w f (relay k) input) q r)
 
@@ -104,35 +105,35 @@ fit₁ : Fit w₁
 fit₁ = fit (relay 1) (filled (pos 0)) pass₁ (many-filled (pos 0))
 
 answered₁ : replies calls₁ w₁ ≡ repliesOf entries₁
-unfolding calls
+unfolding playing
 answered₁ = replies-are calls₁ w₁ fit₁
 
-fair₁ : Fair (relay 1) input calls₁ w₁
-unfolding calls
+fair₁ : Fair (relay 1) input (calls calls₁) w₁
+unfolding playing
 fair₁ = relay-fair 1 calls₁ w₁ fit₁ (record { feeds = record { rest = []; longer = refl }; last = refl; whole = λ e. refl })
 
-rest₁ : AtRest (relay 1) input calls₁ w₁
-unfolding calls
+rest₁ : AtRest (relay 1) input (calls calls₁) w₁
+unfolding playing
 rest₁ = relay-rest 1 calls₁ w₁ fit₁ (refl, refl) refl refl
 
-moved₁ : movedIn calls₁ w₁ ≡ 18
-unfolding calls
+moved₁ : movedIn (calls calls₁) w₁ ≡ 18
+unfolding playing
 moved₁ = moved-is calls₁ w₁ fit₁
 
-between₁ : sent calls₁ w₁ 1 ≡ pos 5 ∷ negsuc 2 ∷ []
-unfolding calls
+between₁ : sent (calls calls₁) w₁ 1 ≡ pos 5 ∷ negsuc 2 ∷ []
+unfolding playing
 between₁ = sent-is calls₁ w₁ fit₁ 1
 
-sent₁ : sent calls₁ w₁ 2 ≡ pos 5 ∷ pos 2 ∷ []
-unfolding calls
+sent₁ : sent (calls calls₁) w₁ 2 ≡ pos 5 ∷ pos 2 ∷ []
+unfolding playing
 sent₁ = sent-is calls₁ w₁ fit₁ 2
 
-first₁ : processOf (after calls₁ w₁ .lane) 0 ≡ process (negsuc 2) (pos 0) 3 Stopped 8
-unfolding calls
+first₁ : processOf (after (calls calls₁) w₁ .lane) 0 ≡ process (negsuc 2) (pos 0) 3 Stopped 8
+unfolding playing
 first₁ = ap (λ (w : World). processOf (w .lane) 0) (left-is calls₁ w₁ fit₁)
 
-second₁ : processOf (after calls₁ w₁ .lane) 1 ≡ process (negsuc 2) (pos 2) 4 Stopped 10
-unfolding calls
+second₁ : processOf (after (calls calls₁) w₁ .lane) 1 ≡ process (negsuc 2) (pos 2) 4 Stopped 10
+unfolding playing
 second₁ = ap (λ (w : World). processOf (w .lane) 1) (left-is calls₁ w₁ fit₁)
 
 -- ---- capacities 2, other cells: process 1 is picked before 0, each time
@@ -176,41 +177,41 @@ fit₂ : Fit w₂
 fit₂ = fit (relay 2) (filled (pos 7)) pass₂ (many-filled (pos 7))
 
 answered₂ : replies calls₂ w₂ ≡ repliesOf entries₂
-unfolding calls
+unfolding playing
 answered₂ = replies-are calls₂ w₂ fit₂
 
-fair₂ : Fair (relay 2) input calls₂ w₂
-unfolding calls
+fair₂ : Fair (relay 2) input (calls calls₂) w₂
+unfolding playing
 fair₂ = relay-fair 2 calls₂ w₂ fit₂ (record { feeds = record { rest = []; longer = refl }; last = refl; whole = λ e. refl })
 
-rest₂ : AtRest (relay 2) input calls₂ w₂
-unfolding calls
+rest₂ : AtRest (relay 2) input (calls calls₂) w₂
+unfolding playing
 rest₂ = relay-rest 2 calls₂ w₂ fit₂ (refl, refl) refl refl
 
-moved₂ : movedIn calls₂ w₂ ≡ 18
-unfolding calls
+moved₂ : movedIn (calls calls₂) w₂ ≡ 18
+unfolding playing
 moved₂ = moved-is calls₂ w₂ fit₂
 
-between₂ : sent calls₂ w₂ 1 ≡ pos 5 ∷ negsuc 2 ∷ []
-unfolding calls
+between₂ : sent (calls calls₂) w₂ 1 ≡ pos 5 ∷ negsuc 2 ∷ []
+unfolding playing
 between₂ = sent-is calls₂ w₂ fit₂ 1
 
-sent₂ : sent calls₂ w₂ 2 ≡ pos 5 ∷ pos 2 ∷ []
-unfolding calls
+sent₂ : sent (calls calls₂) w₂ 2 ≡ pos 5 ∷ pos 2 ∷ []
+unfolding playing
 sent₂ = sent-is calls₂ w₂ fit₂ 2
 
 -- ---- the theorem at these
-relay-fits : Determined (relay 1) (relay 2) input calls₁ calls₂ w₁ w₂
+relay-fits : Determined (relay 1) (relay 2) input (calls calls₁) (calls calls₂) w₁ w₂
 relay-fits =
     any-spare-fits (fileOf (relay 1)) (fileOf (relay 2)) (relay 1) (relay 2) read₁ read₂ alike (filled (pos 0)) (filled (pos 7))
-    (many-filled (pos 0)) (many-filled (pos 7)) input calls₁ calls₂ fair₁ fair₂
+    (many-filled (pos 0)) (many-filled (pos 7)) input (calls calls₁) (calls calls₂) fair₁ fair₂
 
-relay-agrees : AgreeWith (relay 1) calls₁ calls₂ w₁ w₂
+relay-agrees : AgreeWith (relay 1) (calls calls₁) (calls calls₂) w₁ w₂
 relay-agrees = relay-fits .agree rest₁ rest₂
 
 -- one board alone
-relay-holds : Holds (relay 1) input calls₁ w₁
-relay-holds = one-board-holds (fileOf (relay 1)) (relay 1) read₁ (filled (pos 0)) (many-filled (pos 0)) input calls₁ fair₁
+relay-holds : Holds (relay 1) input (calls calls₁) w₁
+relay-holds = one-board-holds (fileOf (relay 1)) (relay 1) read₁ (filled (pos 0)) (many-filled (pos 0)) input (calls calls₁) fair₁
 
 -- and the plain order, computed for as many rounds as picks moved
 plain-sent : plainAfter (withoutCapacities (relay 1)) input 18 .sent 2 ≡ pos 5 ∷ pos 2 ∷ []
