@@ -177,7 +177,7 @@ module _ (n : Network) (pass : passes n ≡ true) where
   pub world-at : (w : World) → w .lane .network ≡ n → w ≡ worldOf n (w .lane .accepted) (boardOf w)
   world-at w e = ap (λ (m : Network). worldOf m (w .lane .accepted) (boardOf w)) e
 
-  shaped-at : (w : World) (H : State Process ℤ) (out : ℕ → List ℤ) → Stands w H out → Shaped (w .lane)
+  pub shaped-at : (w : World) (H : State Process ℤ) (out : ℕ → List ℤ) → Stands w H out → Shaped (w .lane)
   shaped-at w H out s =
       record { registers = s .related .good .registers; processes = s .related .good .standings; channels = s .related .many-channels }
 

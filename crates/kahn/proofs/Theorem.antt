@@ -71,7 +71,7 @@ module _ (n : Network) (pass : passes n ≡ true) where
   fresh-process p =
       rw (eight-null (replicate 128 (pos 0)) (8 * p) (λ i. same-at 128 i (pos 0)), same-at 16 p noStanding)
 
-  stands-fresh : (cells : List ℤ) → length cells ≡ 8192 → Stands n pass (board n cells) (empty (netOf n pass)) (λ c. [])
+  pub stands-fresh : (cells : List ℤ) → length cells ≡ 8192 → Stands n pass (board n cells) (empty (netOf n pass)) (λ c. [])
   unfolding freshOf
   stands-fresh cells many =
       record {
