@@ -6,3 +6,5 @@ pub mod Exactly
 pub mod Ends
 pub mod Always
 pub mod Bare
+pub mod Witness
+pub mod Clock
