@@ -148,7 +148,7 @@ has-course budget w s =
 -- ---- one course alone
 module _ (P most : ℕ) (w : World) where
   goes-stops : (number : ℕ) (v : World) → GoesOn P v → Stops number P v → ⊥
-  goes-stops number v (inl z) t = z (t .0)
+  goes-stops number v (inl z) t = z (omega (arith, t .0))
   goes-stops number v (inr q) t =
       let a : enlarged (q .0) (q .1) ≡ refused number = sym (q .2) ∙ t .1 in
       let z : _≡_ {A = ℕ} 0 1 = cc in

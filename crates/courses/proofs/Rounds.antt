@@ -53,5 +53,5 @@ module _ (P : ℕ) (w : World) (x : Running) (same : x .world ≡ pickedTo P w) 
       go : Dec (x .moved ≡ 0) → (a : Told) → reliefIn (x .world) ≡ a → NoOther a → After
       go (no z) a q t = inl (inl (λ e. z (moves ∙ e)), rw (ne-eqb (x .moved) 0 z))
       go (yes z) (enlarged k c) q t = inl (inr (k, c, ap reliefIn (sym same) ∙ q), rw (eq-eqb (x .moved) 0 z, q))
-      go (yes z) (refused k) q (inl t) = inr (inl ((sym moves ∙ z, ap reliefIn (sym same) ∙ q ∙ ap refused t), rw (eq-eqb (x .moved) 0 z, q, t)))
-      go (yes z) (refused k) q (inr t) = inr (inr ((sym moves ∙ z, ap reliefIn (sym same) ∙ q ∙ ap refused t), rw (eq-eqb (x .moved) 0 z, q, t)))
+      go (yes z) (refused k) q (inl t) = inr (inl ((omega (arith, moves, z), ap reliefIn (sym same) ∙ q ∙ ap refused t), rw (eq-eqb (x .moved) 0 z, q, t)))
+      go (yes z) (refused k) q (inr t) = inr (inr ((omega (arith, moves, z), ap reliefIn (sym same) ∙ q ∙ ap refused t), rw (eq-eqb (x .moved) 0 z, q, t)))

@@ -1,7 +1,7 @@
 -- A run is the list of its bytes' steps.
 -- Assumes nothing.
 use mathlib.Core.Path.{_≡_, refl, sym, ap}
-use mathlib.Core.Bool.{Bool, true, false, cond}
+use mathlib.Core.Bool.{Bool, true, false}
 use mathlib.Core.List.{List, [], _∷_}
 use Prim.Native.Nat.{ℕ, suc, _<_}
 use native.Mathlib.Omega.{arith}
@@ -10,12 +10,11 @@ use lib.ListN.{length, getD}
 use borrow.Author.Tests.{eqb-false, eq-eqb}
 use Rattle.network.specs.declared.Network.{Network}
 use Rattle.lane.specs.State.{World}
-use Rattle.schedule.specs.Running.{Running, begun, picks, relieves}
+use Rattle.schedule.specs.Running.{Running, begun}
 use Rattle.schedule.proofs.Ready.{Ready}
 use Rattle.runs.specs.Run.{byteRun, bytesRun, ran, result, someUnnamed, runOf}
 use Rattle.runs.proofs.Stretches.{all-named}
-use Rattle.kahn.specs.Calls.{pick}
-use Rattle.kahn.specs.Steps.{call, innerRelief, movedIn, grownIn}
+use Rattle.kahn.specs.Steps.{movedIn, grownIn}
 use Rattle.courses.specs.Courses.{byteStep, byteSteps, RunIs}
 use Rattle.courses.proofs.Inside.{ready-steps, Makes, makes-none, makes-both, makes-relief, makes-pick}
 
@@ -24,9 +23,9 @@ module _ (n : Network) where
   unfolding byteRun
   makes-byte b r s h = at (eqb b 255) refl
     where
-      at : (t : Bool) → eqb b 255 ≡ t → Makes (cond t innerRelief (call (pick b)) ∷ []) r (cond t (relieves r) (picks b r))
-      at true e = makes-relief r
-      at false e = makes-pick n b r s (h (eqb-false b 255 e))
+      at : (t : Bool) → eqb b 255 ≡ t → Makes (byteStep b ∷ []) r (byteRun b r)
+      at true e = rw e (makes-relief r)
+      at false e = rw e (makes-pick n b r s (h (eqb-false b 255 e)))
 
   pub makes-bytes : (bytes : List ℕ) (r : Running) → Ready n (r .world) → ((k : ℕ) → k < length bytes → (getD bytes k 0 ≡ 255 → ⊥) → getD bytes k 0 < n .processes)
       → Makes (byteSteps bytes) r (bytesRun bytes r)
