@@ -2,7 +2,7 @@
 -- relief enlarges a channel; both end. The whole list, with its relief that nobody called, is fair and at rest.
 -- Assumes nothing.
 use mathlib.Core.Path.{_≡_, refl, sym, ap, _∙_, subst, subst⁻¹}
-use mathlib.Core.Bool.{true}
+use mathlib.Core.Bool.{true, false}
 use mathlib.Core.List.{List, [], _∷_, _++_}
 use Prim.Native.Nat.{ℕ, zero, suc, _*_, _≤_, _<_}
 use native.Mathlib.Omega.{arith}
@@ -16,22 +16,27 @@ use Rattle.base.proofs.Conjunction.{both-true}
 use Rattle.network.specs.declared.Network.{Network}
 use Rattle.network.specs.Rules.{senderOf, outside, passes}
 use Rattle.network.proofs.Unused.{passes-by}
-use Rattle.lane.specs.State.{World, freshOf}
+use Rattle.process.specs.declared.Condition.the-variants.{Live}
+use Rattle.process.specs.Channels.{noChannel}
+use Rattle.lane.specs.State.{World, world, noStanding, freshOf}
 use Rattle.lane.specs.Calls.{Called, pickOf}
+use Rattle.lane.specs.Sound.{channelSound, soundOf}
 use Rattle.lane.proofs.SoundLaws.{fresh-sound}
 use Rattle.lane_file.specs.File.{fileOf}
 use Rattle.lane_file.proofs.RoundTrip.{Shaped}
 use Rattle.schedule.specs.Running.{begun, picks}
 use Rattle.schedule.proofs.Ready.{Ready}
-use Rattle.drives.specs.Drive.{settled, drove, Result, done, driveOf}
+use Rattle.drives.specs.Drive.{settled, ceiling, drove, Result, done, driveOf}
 use Rattle.kahn.specs.Plain.{fromOutside, withoutCapacities, plainAfter}
 use Rattle.kahn.specs.Boards.{board, isResting, Fair, AllIn, Quiet, AtRest, Agrees}
 use Rattle.kahn.specs.Theorem.{ReadAs}
 use Rattle.kahn.specs.Steps.{movedIn, grownIn}
 use Rattle.kahn_witnesses.proofs.Computed.{tests, files, playing, filled, many-filled}
 use Rattle.kahn_witnesses.proofs.Tested.{read-by}
+use Rattle.courses.specs.Exactly.{StopsAt}
 use Rattle.courses.specs.Courses.{RunIs, courseSteps}
 use Rattle.courses.specs.Ends.{Driven}
+use Rattle.courses.proofs.Exactly.{ends-exactly}
 use Rattle.courses.proofs.Inside.{ready-steps, picked-there}
 use Rattle.courses.proofs.Runs.{run-is}
 use Rattle.courses.proofs.Ends.{then-drive}
@@ -147,3 +152,36 @@ made =
 runs : RunIs (0 ∷ 0 ∷ 0 ∷ 1 ∷ 1 ∷ 1 ∷ 255 ∷ 0 ∷ 1 ∷ []) start
 unfolding freshOf inTurn
 runs = run-is pair (0 ∷ 0 ∷ 0 ∷ 1 ∷ 1 ∷ 1 ∷ 255 ∷ 0 ∷ 1 ∷ []) start ready refl
+
+-- ---- the same two, each at its second sending, on channels that have grown to 256 and are full
+abbrev brim : World
+brim =
+    world
+    (record {
+      network = pair;
+      registers = (pos 5 ∷ replicate 7 (pos 0)) ++ (pos 7 ∷ replicate 7 (pos 0)) ++ replicate 112 (pos 0);
+      processes = record { position = 2; condition = Live; moves = 257 } ∷ record { position = 2; condition = Live; moves = 257 } ∷ replicate 14 noStanding;
+      channels = record { capacity = 256; oldest = 0; held = 256; closed = false } ∷ record { capacity = 256; oldest = 0; held = 256; closed = false } ∷ replicate 30 noChannel;
+      accepted = 510;
+    })
+    cells
+
+brim-sound : soundOf (brim .lane) ≡ true
+unfolding soundOf channelSound inTurn
+brim-sound = rw pass
+
+brim-ready : Ready pair brim
+brim-ready = record { same = refl; long = many-filled (pos 0); shaped = record { registers = refl; processes = refl; channels = refl }; sound = brim-sound }
+
+-- one round, no move, and no channel of the ring is below 256
+brim-answers : driveOf 40 brim .answer ≡ drove ceiling 2 0
+unfolding driving
+brim-answers = ap (λ (x : Result). x .answer) (drive-bare pair 40 brim brim-ready)
+
+-- each of the three ends, as its course tells it
+settles : StopsAt 13 2 20 start
+unfolding freshOf
+settles = ends-exactly 40 start ready .settles .0 (18, 1, answers)
+
+reaches : StopsAt 14 2 20 brim
+reaches = ends-exactly 40 brim brim-ready .ceilings .0 (2, 0, brim-answers)
