@@ -41,7 +41,7 @@ module _ (w : World) (shaped : Shaped (w .lane)) where
       go false false e f =
           let c = has-course budget w (ready w shaped e f) in
           record {
-            steps = courseSteps (w .lane .network .processes) (c .rounds) w;
-            inner = inner-course (w .lane .network .processes) (c .rounds) w;
+            steps = courseSteps (w .lane .network .processes) (c .rounds);
+            inner = inner-course (w .lane .network .processes) (c .rounds);
             leaves = ap (λ (r : drive.Result). r .world) (c .drives);
           }

@@ -1,7 +1,7 @@
 -- A drive on a sound lane without the tests of each relief: for computation. (The tests are shown once, by the law that soundness is kept.)
 -- Assumes nothing.
 use mathlib.Core.Path.{_≡_, refl, ap, _∙_, subst}
-use mathlib.Core.Bool.{Bool, true, false, cond}
+use mathlib.Core.Bool.{cond}
 use Prim.Native.Nat.{ℕ, zero, suc, _+_, _/_}
 use lib.Dec.{eqb}
 use lib.ListN.{length, replicate}
@@ -23,7 +23,7 @@ bareRelief w = settled (foundIn (w .lane)) (w .lane) (replicate 16 0)
 -- the rule after a round, by what its relief gives
 abbrev leftBy : Relief → Running → Running
 leftBy x r =
-    cond (eqb (r .moved) 0) (record { world = world (x .lane) (r .world .cells); moved = r .moved; grown = cond (hasGrown (x .answer)) (r .grown + 1) (r .grown) }) r
+    record { world = world (x .lane) (r .world .cells); moved = r .moved; grown = cond (hasGrown (x .answer)) (r .grown + 1) (r .grown) }
 
 abbrev nextBy : Relief → Running → Next
 nextBy x r = cond (eqb (r .moved) 0) (byRelief (x .answer)) goes
@@ -46,14 +46,8 @@ module _ (n : Network) where
   onward-same f g m r goes h = h
 
   left-ready : (x : Running) → Ready n (x .world) → Ready n (leftBy (bareRelief (x .world)) x .world)
-  left-ready x s = at (eqb (x .moved) 0)
-    where
-      t : Ready n (world (bareRelief (x .world) .lane) (x .world .cells))
-      t = subst (λ (y : Relief). Ready n (world (y .lane) (x .world .cells))) (bare (x .world .lane) (s .sound)) (ready-relief n (x .world) (replicate 16 0) s)
-
-      at : (b : Bool) → Ready n (cond b (record { world = world (bareRelief (x .world) .lane) (x .world .cells); moved = x .moved; grown = cond (hasGrown (bareRelief (x .world) .answer)) (x .grown + 1) (x .grown) }) x .world)
-      at true = t
-      at false = s
+  left-ready x s =
+      subst (λ (y : Relief). Ready n (world (y .lane) (x .world .cells))) (bare (x .world .lane) (s .sound)) (ready-relief n (x .world) (replicate 16 0) s)
 
   bare-is : (k m : ℕ) (r : Running) → Ready n (r .world) → rounds k m r ≡ bareRounds k m r
   unfolding bareRounds relieves

@@ -13,12 +13,12 @@ use Rattle.lane.specs.State.{World}
 use Rattle.relief.specs.Relief.{enlarged, refused}
 use Rattle.schedule.specs.Running.{Running, begun}
 use Rattle.schedule.proofs.Ready.{Ready, ready-answers}
-use Rattle.drives.specs.Drive.{afresh, round, Ended, settled, ceiling, spent, Next, ends, goes, nextAfter, leftAfter, Drive, driven, rounds, drove, result, driveOf}
+use Rattle.drives.specs.Drive.{round, Ended, settled, ceiling, spent, Next, ends, goes, nextAfter, leftAfter, Drive, driven, rounds, drove, result, driveOf}
 use Rattle.kahn.specs.Steps.{Step, after, grownIn}
 use Rattle.kahn.proofs.Lists.{after-append, grown-append}
-use Rattle.courses.specs.Courses.{turnSteps, pickedTo, movedOver, reliefAfter, roundSteps, beginning, courseSteps, GoesOn, Stops, EndsSo, Course, drivenBy, HasCourse, Exactly}
-use Rattle.courses.proofs.Inside.{ready-steps, makes-both}
-use Rattle.courses.proofs.Rounds.{makes-round, makes-left, After, by-moves}
+use Rattle.courses.specs.Courses.{turnSteps, pickedTo, movedOver, roundSteps, beginning, courseSteps, GoesOn, Stops, EndsSo, Course, drivenBy, HasCourse, Exactly}
+use Rattle.courses.proofs.Inside.{ready-steps}
+use Rattle.courses.proofs.Rounds.{makes-round, makes-after, After, by-moves}
 
 -- ---- a round of a drive, and what follows it
 abbrev pub onward : (Running → Drive) → ℕ → Running → Next → Drive
@@ -33,19 +33,19 @@ rounds-more k n r = go (nextAfter (round r)) refl
     go goes q = rw (q, rounds)
 
 -- where k rounds lead
-pub beginning-is : (P k : ℕ) (w : World) → beginning P k w ≡ after (courseSteps P k w) w
+pub beginning-is : (P k : ℕ) (w : World) → beginning P k w ≡ after (courseSteps P k) w
 beginning-is P zero w = refl
 beginning-is P (suc k) w =
-    beginning-is P k (after (roundSteps P w) w) ∙ sym (after-append (roundSteps P w) (courseSteps P k (after (roundSteps P w) w)) w)
+    beginning-is P k (after (roundSteps P) w) ∙ sym (after-append (roundSteps P) (courseSteps P k) w)
 
 -- ---- a round that went on, before a course
 module _ (P : ℕ) (w : World) where
-  one-later : (e : Ended) (k going made : ℕ) → EndsSo e P k (after (roundSteps P w) w) going made → EndsSo e P (suc k) w (suc going) (suc made)
+  one-later : (e : Ended) (k going made : ℕ) → EndsSo e P k (after (roundSteps P) w) going made → EndsSo e P (suc k) w (suc going) (suc made)
   one-later settled k going made t = (ap suc (t .0), omega (arith, t .1), t .2)
   one-later ceiling k going made t = (ap suc (t .0), omega (arith, t .1), t .2)
   one-later spent k going made t = (ap suc (t .0), ap suc (t .1))
 
-  course-more : (e : Ended) (k made : ℕ) → GoesOn P w → Course P k (after (roundSteps P w) w) e made → Course P (suc k) w e (suc made)
+  course-more : (e : Ended) (k made : ℕ) → GoesOn P w → Course P k (after (roundSteps P) w) e made → Course P (suc k) w e (suc made)
   course-more e k made g t = record { going = suc (t .going); on = on; last = one-later e k (t .going) made (t .last) }
     where
       on : (i : ℕ) → i < suc (t .going) → GoesOn P (beginning P i w)
@@ -58,14 +58,14 @@ module _ (P : ℕ) where
     made : ℕ
     total : d .rounds ≡ m + made
     course : Course P k (r .world) (d .end) made
-    world : d .running .world ≡ after (courseSteps P made (r .world)) (r .world)
-    grown : d .running .grown ≡ r .grown + grownIn (courseSteps P made (r .world)) (r .world)
+    world : d .running .world ≡ after (courseSteps P made) (r .world)
+    grown : d .running .grown ≡ r .grown + grownIn (courseSteps P made) (r .world)
 
   -- one round: y is there after it and its relief
-  module _ (k m : ℕ) (r y : Running) (same : y .world ≡ after (roundSteps P (r .world)) (r .world))
-      (grew : y .grown ≡ r .grown + grownIn (roundSteps P (r .world)) (r .world)) where
-    no-more : courseSteps P 1 (r .world) ≡ roundSteps P (r .world)
-    no-more = append-nil (roundSteps P (r .world))
+  module _ (k m : ℕ) (r y : Running) (same : y .world ≡ after (roundSteps P) (r .world))
+      (grew : y .grown ≡ r .grown + grownIn (roundSteps P) (r .world)) where
+    no-more : courseSteps P 1 ≡ roundSteps P
+    no-more = append-nil (roundSteps P)
 
     stopped : (e : Ended) → EndsSo e P (suc k) (r .world) 0 1 → Followed (suc k) m r (driven e (m + 1) y)
     stopped e t =
@@ -79,16 +79,15 @@ module _ (P : ℕ) where
 
     went : (d : Drive) → GoesOn P (r .world) → Followed k (m + 1) y d → Followed (suc k) m r d
     went d g t =
-        let w′ : World = after (roundSteps P (r .world)) (r .world) in
-        let c : List Step = courseSteps P (t .made) w′ in
+        let c : List Step = courseSteps P (t .made) in
         record {
           made = suc (t .made);
           total = omega (arith, t .total);
           course = course-more P (r .world) (d .end) k (t .made) g (subst (λ (x : World). Course P k x (d .end) (t .made)) same (t .course));
-          world = subst (λ (x : World). d .running .world ≡ after (courseSteps P (t .made) x) x) same (t .world) ∙ sym (after-append (roundSteps P (r .world)) c (r .world));
+          world = subst (λ (x : World). d .running .world ≡ after c x) same (t .world) ∙ sym (after-append (roundSteps P) c (r .world));
           grown =
-              let b = subst (λ (x : World). d .running .grown ≡ y .grown + grownIn (courseSteps P (t .made) x) x) same (t .grown) in
-              omega (arith, b, grew, grown-append (roundSteps P (r .world)) c (r .world));
+              let b = subst (λ (x : World). d .running .grown ≡ y .grown + grownIn c x) same (t .grown) in
+              omega (arith, b, grew, grown-append (roundSteps P) c (r .world));
         }
 
     follow : (x : Running) (same : x .world ≡ pickedTo P (r .world)) (moves : x .moved ≡ movedOver P (r .world)) → After P (r .world) x same moves
@@ -108,21 +107,21 @@ module _ (n : Network) where
   record Round (r : Running) : Type 0 where
     same : round r .world ≡ pickedTo P (r .world)
     moves : round r .moved ≡ movedOver P (r .world)
-    left : leftAfter (round r) .world ≡ after (roundSteps P (r .world)) (r .world)
-    grew : leftAfter (round r) .grown ≡ r .grown + grownIn (roundSteps P (r .world)) (r .world)
+    left : leftAfter (round r) .world ≡ after (roundSteps P) (r .world)
+    grew : leftAfter (round r) .grown ≡ r .grown + grownIn (roundSteps P) (r .world)
 
   a-round : (r : Running) → Ready n (r .world) → Round r
   a-round r s =
       let m = makes-round n r s in
       let e : round r .moved ≡ movedOver P (r .world) = omega (arith, m .moved) in
-      let b = makes-both (turnSteps 0 P) (reliefAfter P (r .world)) (afresh r) (round r) (leftAfter (round r)) m (makes-left P (r .world) (round r) (m .world) e) in
+      let b = makes-after n r s in
       record { same = m .world; moves = e; left = b .world; grew = b .grown }
 
   follows : (k m : ℕ) (r : Running) → Ready n (r .world) → Followed P k m r (rounds k m r)
   follows zero m r s = none P m r
   follows (suc k) m r s =
       let t = a-round r s in
-      let s′ : Ready n (leftAfter (round r) .world) = rw (t .left) (ready-steps n (roundSteps P (r .world)) (r .world) s) in
+      let s′ : Ready n (leftAfter (round r) .world) = rw (t .left) (ready-steps n (roundSteps P) (r .world) s) in
       let s″ : Ready n (round r .world) = rw (t .same) (ready-steps n (turnSteps 0 P) (r .world) s) in
       subst⁻¹ (Followed P (suc k) m r) (rounds-more k m r)
       (follow P k m r (leftAfter (round r)) (t .left) (t .grew) (round r) (t .same) (t .moves)
@@ -137,7 +136,7 @@ has-course budget w s =
     let d : Drive = rounds (budget / P) 0 (begun w) in
     let f = follows (w .lane .network) (budget / P) 0 (begun w) s in
     let a : d .rounds ≡ f .made = omega (arith, f .total) in
-    let b : d .running .grown ≡ grownIn (courseSteps P (f .made) w) w = omega (arith, f .grown) in
+    let b : d .running .grown ≡ grownIn (courseSteps P (f .made)) w = omega (arith, f .grown) in
     record {
       end = d .end;
       rounds = f .made;

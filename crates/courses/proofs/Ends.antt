@@ -21,7 +21,7 @@ use Rattle.kahn.proofs.Events.{shaped-at}
 use Rattle.kahn.proofs.Theorem.{stands-fresh}
 use Rattle.kahn.proofs.Lists.{after-append, fed-append}
 use Rattle.kahn.proofs.Whole.{one-board-holds}
-use Rattle.courses.specs.Courses.{byteSteps, turnSteps, reliefAfter, movedOver, roundSteps, courseSteps, Course, drivenBy}
+use Rattle.courses.specs.Courses.{byteSteps, turnSteps, roundSteps, courseSteps, Course, drivenBy}
 use Rattle.courses.specs.Ends.{isInner, Inner, Continued, ThenRun, ThenDrive}
 use Rattle.courses.proofs.Inside.{ready-steps}
 use Rattle.courses.proofs.Runs.{run-is}
@@ -44,19 +44,9 @@ inner-turns : (p k : ℕ) → Inner (turnSteps p k)
 inner-turns p zero = tt
 inner-turns p (suc k) = (refl, inner-turns (suc p) k)
 
-inner-relief : (P : ℕ) (w : World) → Inner (reliefAfter P w)
-inner-relief P w = at (eqb (movedOver P w) 0)
-  where
-    at : (t : Bool) → Inner (cond t (innerRelief ∷ []) [])
-    at true = (refl, tt)
-    at false = tt
-
-pub inner-course : (P k : ℕ) (w : World) → Inner (courseSteps P k w)
-inner-course P zero w = tt
-inner-course P (suc k) w =
-    inner-append (roundSteps P w) (courseSteps P k (after (roundSteps P w) w))
-    (inner-append (turnSteps 0 P) (reliefAfter P w) (inner-turns 0 P) (inner-relief P w))
-    (inner-course P k (after (roundSteps P w) w))
+pub inner-course : (P k : ℕ) → Inner (courseSteps P k)
+inner-course P zero = tt
+inner-course P (suc k) = inner-append (roundSteps P) (courseSteps P k) (inner-append (turnSteps 0 P) (innerRelief ∷ []) (inner-turns 0 P) (refl, tt)) (inner-course P k)
 
 -- ---- they feed nothing and close nothing
 inner-fed : (ts : List Step) (w : World) (c : ℕ) → Inner ts → fed ts w c ≡ []
@@ -142,5 +132,5 @@ then-drive f n reads cells many input steps fair budget =
       rounds = c .rounds;
       course = subst (λ (k : ℕ). Course k (budget / k) w (c .end) (c .rounds)) P (c .course);
       drives = subst (λ (k : ℕ). driveOf budget w ≡ drivenBy k w (c .end) (c .rounds)) P (c .drives);
-      continued = continue f n reads cells many input steps fair (courseSteps (n .processes) (c .rounds) w) (inner-course (n .processes) (c .rounds) w);
+      continued = continue f n reads cells many input steps fair (courseSteps (n .processes) (c .rounds)) (inner-course (n .processes) (c .rounds));
     }

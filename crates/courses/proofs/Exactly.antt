@@ -1,13 +1,12 @@
 -- How a drive ends, read off its course; and the end of one that stopped: no pick moves there.
 -- Assumes nothing.
 use mathlib.Core.Path.{_≡_, refl, sym, ap, _∙_, subst, subst⁻¹}
-use mathlib.Core.Bool.{Bool, true, false, cond, true≢false}
-use mathlib.Core.List.{List, [], _∷_}
+use mathlib.Core.Bool.{Bool, true, false, true≢false}
+use mathlib.Core.List.{[], _∷_}
 use Prim.Native.Nat.{ℕ, zero, suc, _+_, _*_, _/_, _≤_, _<_}
 use native.Mathlib.Decide.{ℕ-discrete}
 use native.Mathlib.Omega.{arith}
 use lib.ListN.{replicate}
-use borrow.Author.Tests.{eq-eqb}
 use Rattle.network.specs.declared.Network.{Network}
 use Rattle.network.proofs.Passed.{passed}
 use Rattle.process.specs.declared.Outcome.{Outcome}
@@ -26,9 +25,9 @@ use Rattle.drives.specs.Drive.{settled, ceiling, spent, Result, drove}
 use Rattle.drives.specs.Drive as drive
 use Rattle.kahn.specs.Calls.{told, apply, wasMoved, countOne}
 use Rattle.kahn.specs.Boards.{isResting, Quiet}
-use Rattle.kahn.specs.Steps.{Step, innerRelief, after, movedIn, grownIn}
+use Rattle.kahn.specs.Steps.{innerRelief, after, movedIn, grownIn}
 use Rattle.kahn.proofs.Lists.{after-append}
-use Rattle.courses.specs.Courses.{turnSteps, movedOver, pickedTo, reliefAfter, roundSteps, beginning, courseSteps, Stops, Course}
+use Rattle.courses.specs.Courses.{turnSteps, pickedTo, roundSteps, beginning, courseSteps, Stops, Course}
 use Rattle.courses.specs.Ends.{NoneFull}
 use Rattle.courses.specs.Exactly.{Answers, EndsExactly}
 use Rattle.courses.proofs.Inside.{ready-steps, relieved-is, picked-there, moved-as}
@@ -50,7 +49,7 @@ module _ (budget : ℕ) (w : World) (s : Ready (w .lane .network) w) where
       (c .rounds, subst (λ (x : drive.Ended). Course P (budget / P) w x (c .rounds)) q (c .course))
 
   answers-so : (e : drive.Ended) (rounds : ℕ) → Course P (budget / P) w e rounds → Answers budget w e
-  answers-so e rounds c = (P * rounds, grownIn (courseSteps P rounds w) w, ap (λ (r : Result). r .answer) (exactly budget w s e rounds c))
+  answers-so e rounds c = (P * rounds, grownIn (courseSteps P rounds) w, ap (λ (r : Result). r .answer) (exactly budget w s e rounds c))
 
   pub ends-exactly : EndsExactly P budget w
   ends-exactly =
@@ -116,12 +115,10 @@ module _ (n : Network) (v : World) (s : Ready n v) (number : ℕ) (stops : Stops
   stop-relief : (w : World) → reliefIn w ≡ refused number → after (innerRelief ∷ []) w ≡ w
   stop-relief w q = ap (λ (l : Lane). world l (w .cells)) (relieved-is (w .lane) ∙ refused-same (w .lane) number q)
 
-  stop-same : after (roundSteps (n .processes) v) v ≡ v
+  stop-same : after (roundSteps (n .processes)) v ≡ v
   stop-same =
       let P : ℕ = n .processes in
-      let e : reliefAfter P v ≡ innerRelief ∷ [] = ap (λ (t : Bool). cond t (innerRelief ∷ []) []) (eq-eqb (movedOver P v) 0 (stops .0)) in
-      after-append (turnSteps 0 P) (reliefAfter P v) v
-      ∙ ap (λ (l : List Step). after l (pickedTo P v)) e
+      after-append (turnSteps 0 P) (innerRelief ∷ []) v
       ∙ stop-relief (pickedTo P v) (stops .1)
       ∙ stop-picks
 
@@ -129,12 +126,12 @@ module _ (n : Network) (v : World) (s : Ready n v) (number : ℕ) (stops : Stops
   stop-still p h = still-turns n v s (n .processes) 0 (omega arith) (stops .0) .1 p (omega arith) (omega arith)
 
 -- ---- the end of a drive that stopped
-last-round : (P k : ℕ) (w : World) → beginning P (suc k) w ≡ after (roundSteps P (beginning P k w)) (beginning P k w)
+last-round : (P k : ℕ) (w : World) → beginning P (suc k) w ≡ after (roundSteps P) (beginning P k w)
 last-round P zero w = refl
-last-round P (suc k) w = last-round P k (after (roundSteps P w) w)
+last-round P (suc k) w = last-round P k (after (roundSteps P) w)
 
 abbrev pub atEnd : ℕ → ℕ → World → World
-atEnd P rounds w = after (courseSteps P rounds w) w
+atEnd P rounds w = after (courseSteps P rounds) w
 
 -- an answer of a pick of a process that is there, that did not move and does not wait on a full channel, is of one that rests
 resting-by : (o : Outcome) (c : ℕ) → wasMoved (told (answerTo o c)) ≡ false → ((d : ℕ) → answerTo o c ≡ waitingFull d → ⊥) → isResting (answerTo o c) ≡ true
@@ -152,7 +149,7 @@ module _ (n : Network) (w : World) (s : Ready n w) where
   stopped-still number going t p h =
       let P : ℕ = n .processes in
       let v : World = beginning P going w in
-      let r : Ready n v = subst⁻¹ (Ready n) (beginning-is P going w) (ready-steps n (courseSteps P going w) w s) in
+      let r : Ready n v = subst⁻¹ (Ready n) (beginning-is P going w) (ready-steps n (courseSteps P going) w s) in
       let e : atEnd P (suc going) w ≡ v = sym (beginning-is P (suc going) w) ∙ last-round P going w ∙ stop-same n v r number t in
       subst⁻¹ (λ (x : World). wasMoved (told (pickOf p x .answer)) ≡ false) e (stop-still n v r number t p h)
 
@@ -161,7 +158,7 @@ module _ (n : Network) (w : World) (s : Ready n w) where
   settled-quiet most rounds c f p h =
       let P : ℕ = n .processes in
       let x : World = atEnd P rounds w in
-      let r : Ready n x = ready-steps n (courseSteps P rounds w) w s in
+      let r : Ready n x = ready-steps n (courseSteps P rounds) w s in
       let e = subst⁻¹ (λ (k : ℕ). wasMoved (told (pickOf p (atEnd P k w) .answer)) ≡ false) (c .last .0) (stopped-still 13 (c .going) (c .last .2) p h) in
       let q = picked-there n x p r h in
       subst⁻¹ (λ (y : Called). isResting (y .answer) ≡ true) q

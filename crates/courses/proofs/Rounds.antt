@@ -1,23 +1,21 @@
 -- A round of a drive, with the relief after it, is a list of steps; and by what happened in it, it ends or goes on.
 -- Assumes nothing.
-use mathlib.Core.Path.{_≡_, refl, sym, ap, _∙_, subst, subst⁻¹}
+use mathlib.Core.Path.{_≡_, refl, sym, ap, _∙_, subst⁻¹}
 use mathlib.Core.Logic.{_⊎_, inl, inr}
-use mathlib.Core.Bool.{Bool, true, false, cond}
 use mathlib.Core.List.{[], _∷_}
 use Prim.Native.Nat.{ℕ, zero, suc, _+_, _≤_}
 use native.Mathlib.Decide.{ℕ-discrete}
 use native.Mathlib.Omega.{arith}
-use lib.Dec.{eqb}
 use borrow.Author.Tests.{eq-eqb, ne-eqb}
 use Rattle.network.specs.declared.Network.{Network}
 use Rattle.lane.specs.State.{World}
 use Rattle.relief.specs.Relief.{Told, enlarged, refused, NoOther}
-use Rattle.schedule.specs.Running.{Running, picks, reliefIn, relieves}
+use Rattle.schedule.specs.Running.{Running, picks, reliefIn}
 use Rattle.schedule.proofs.Ready.{Ready}
 use Rattle.drives.specs.Drive.{turns, afresh, round, settled, ceiling, ends, goes, nextAfter, leftAfter}
 use Rattle.kahn.specs.Calls.{pick}
 use Rattle.kahn.specs.Steps.{call, innerRelief}
-use Rattle.courses.specs.Courses.{turnSteps, pickedTo, movedOver, reliefAfter, GoesOn, Stops}
+use Rattle.courses.specs.Courses.{turnSteps, pickedTo, movedOver, roundSteps, GoesOn, Stops}
 use Rattle.courses.proofs.Inside.{ready-steps, Makes, makes-none, makes-both, makes-relief, makes-pick}
 
 module _ (n : Network) where
@@ -34,15 +32,12 @@ module _ (n : Network) where
       subst⁻¹ (λ (P : ℕ). Makes (turnSteps 0 (n .processes)) (afresh r) (turns 0 P (afresh r))) (ap (λ (m : Network). m .processes) (s .same))
       (makes-turns (n .processes) 0 (afresh r) s (omega arith))
 
--- ---- what follows its picks: x is there after them
-module _ (P : ℕ) (w : World) (x : Running) (same : x .world ≡ pickedTo P w) (moves : x .moved ≡ movedOver P w) where
-  pub makes-left : Makes (reliefAfter P w) x (leftAfter x)
-  makes-left = subst (λ (m : ℕ). Makes (cond (eqb m 0) (innerRelief ∷ []) []) x (leftAfter x)) moves (at (eqb (x .moved) 0))
-    where
-      at : (t : Bool) → Makes (cond t (innerRelief ∷ []) []) x (cond t (relieves x) x)
-      at true = makes-relief x
-      at false = makes-none x
+  -- ---- with the relief after them
+  pub makes-after : (r : Running) → Ready n (r .world) → Makes (roundSteps (n .processes)) (afresh r) (leftAfter (round r))
+  makes-after r s = makes-both (turnSteps 0 (n .processes)) (innerRelief ∷ []) (afresh r) (round r) (leftAfter (round r)) (makes-round r s) (makes-relief (round r))
 
+-- ---- what follows: x is there after its picks
+module _ (P : ℕ) (w : World) (x : Running) (same : x .world ≡ pickedTo P w) (moves : x .moved ≡ movedOver P w) where
   -- by its moves and its relief
   abbrev pub After : Type 0
   After = (GoesOn P w × (nextAfter x ≡ goes)) ⊎ ((Stops 13 P w × (nextAfter x ≡ ends settled)) ⊎ (Stops 14 P w × (nextAfter x ≡ ends ceiling)))

@@ -26,14 +26,14 @@ use Rattle.lane_file.specs.File.{fileOf}
 use Rattle.lane_file.proofs.RoundTrip.{Shaped}
 use Rattle.schedule.specs.Running.{begun, picks}
 use Rattle.schedule.proofs.Ready.{Ready}
-use Rattle.drives.specs.Drive.{settled, ceiling, drove, Result, done, driveOf}
+use Rattle.drives.specs.Drive.{settled, ceiling, spent, drove, Result, done, driveOf}
 use Rattle.kahn.specs.Plain.{fromOutside, withoutCapacities, plainAfter}
 use Rattle.kahn.specs.Boards.{board, isResting, Fair, AllIn, Quiet, AtRest, Agrees}
 use Rattle.kahn.specs.Theorem.{ReadAs}
 use Rattle.kahn.specs.Steps.{movedIn, grownIn}
 use Rattle.kahn_witnesses.proofs.Computed.{tests, files, playing, filled, many-filled}
 use Rattle.kahn_witnesses.proofs.Tested.{read-by}
-use Rattle.courses.specs.Exactly.{StopsAt}
+use Rattle.courses.specs.Exactly.{StopsAt, AllWentOn}
 use Rattle.courses.specs.Courses.{RunIs, courseSteps}
 use Rattle.courses.specs.Ends.{Driven}
 use Rattle.courses.proofs.Exactly.{ends-exactly}
@@ -108,7 +108,7 @@ all-in : AllIn pair input [] start
 all-in = record { fedAll = λ c o. refl; closedAll = λ c o. absurd (none c o) }
 
 -- the driver, computed: one enlargement, and settled
-answers : driveOf 40 start .answer ≡ drove settled 18 1
+answers : driveOf 40 start .answer ≡ drove settled 16 1
 unfolding driving
 answers = ap (λ (x : Result). x .answer) (drive-bare pair 40 start ready)
 
@@ -126,7 +126,7 @@ quiet p h = subst⁻¹ (λ (x : World). isResting (pickOf p x .answer) ≡ true)
     still-ready : Ready pair left
     still-ready =
         subst (Ready pair) (ap (λ (x : Result). x .world) (sym (driven .drives) ∙ drive-bare pair 40 start ready))
-        (ready-steps pair (courseSteps 2 (driven .rounds) start) start ready)
+        (ready-steps pair (courseSteps 2 (driven .rounds)) start ready)
 
     at : (p : ℕ) → p < 2 → isResting (pickOf p left .answer) ≡ true
     at zero h = ap (λ (x : Called). isResting (x .answer)) (picked-there pair left 0 still-ready h)
@@ -134,18 +134,18 @@ quiet p h = subst⁻¹ (λ (x : World). isResting (pickOf p x .answer) ≡ true)
     at (suc (suc p)) h = absurd (omega arith)
 
 -- so the list of the drive's steps is at rest, and demand 3's (b) applies to it
-at-rest : AtRest pair input (courseSteps 2 (driven .rounds) start) start
+at-rest : AtRest pair input (courseSteps 2 (driven .rounds)) start
 at-rest = driven .continued .rests all-in (subst (Quiet pair) (ap (λ (x : Result). x .world) (driven .drives)) quiet)
 
-agrees : (rounds : ℕ) → movedIn (courseSteps 2 (driven .rounds) start) start ≤ rounds
-    → Agrees pair input (courseSteps 2 (driven .rounds) start) start (plainAfter (withoutCapacities pair) input rounds)
+agrees : (rounds : ℕ) → movedIn (courseSteps 2 (driven .rounds)) start ≤ rounds
+    → Agrees pair input (courseSteps 2 (driven .rounds)) start (plainAfter (withoutCapacities pair) input rounds)
 agrees rounds h = driven .continued .holds .rests at-rest rounds h
 
--- nine rounds, settled, and one of its reliefs enlarged
-made : (driven .end ≡ settled) × (driven .rounds ≡ 9) × (grownIn (courseSteps 2 (driven .rounds) start) start ≡ 1)
+-- eight rounds, settled, and one of its reliefs enlarged
+made : (driven .end ≡ settled) × (driven .rounds ≡ 8) × (grownIn (courseSteps 2 (driven .rounds)) start ≡ 1)
 made =
-    let q : drove (driven .end) (2 * driven .rounds) (grownIn (courseSteps 2 (driven .rounds) start) start) ≡ drove settled 18 1 = sym (ap (λ (x : Result). x .answer) (driven .drives)) ∙ answers in
-    let a : 2 * driven .rounds ≡ 18 = cc in
+    let q : drove (driven .end) (2 * driven .rounds) (grownIn (courseSteps 2 (driven .rounds)) start) ≡ drove settled 16 1 = sym (ap (λ (x : Result). x .answer) (driven .drives)) ∙ answers in
+    let a : 2 * driven .rounds ≡ 16 = cc in
     (cc, omega arith, cc)
 
 -- a run with a relief in it: picks until both wait in the ring, the relief, and on
@@ -178,10 +178,19 @@ brim-answers : driveOf 40 brim .answer ≡ drove ceiling 2 0
 unfolding driving
 brim-answers = ap (λ (x : Result). x .answer) (drive-bare pair 40 brim brim-ready)
 
+-- two rounds alone: the relief after the last one enlarges, and counts
+two-rounds : driveOf 4 start .answer ≡ drove spent 4 1
+unfolding driving
+two-rounds = ap (λ (x : Result). x .answer) (drive-bare pair 4 start ready)
+
 -- each of the three ends, as its course tells it
 settles : StopsAt 13 2 20 start
 unfolding freshOf
-settles = ends-exactly 40 start ready .settles .0 (18, 1, answers)
+settles = ends-exactly 40 start ready .settles .0 (16, 1, answers)
 
 reaches : StopsAt 14 2 20 brim
 reaches = ends-exactly 40 brim brim-ready .ceilings .0 (2, 0, brim-answers)
+
+spends : AllWentOn 2 2 start
+unfolding freshOf
+spends = ends-exactly 4 start ready .spends .0 (4, 1, two-rounds)

@@ -40,22 +40,19 @@ pickedTo P w = after (turnSteps 0 P) w
 abbrev pub movedOver : ℕ → World → ℕ
 movedOver P w = movedIn (turnSteps 0 P) w
 
--- the relief after them: "After a round without a move, relieve." (Document 02, 5: after every round; then this is innerRelief ∷ [].)
-abbrev pub reliefAfter : ℕ → World → List Step
-reliefAfter P w = cond (eqb (movedOver P w) 0) (innerRelief ∷ []) []
-
-abbrev pub roundSteps : ℕ → World → List Step
-roundSteps P w = turnSteps 0 P ++ reliefAfter P w
+-- a round's steps: its picks, and the relief after them, "once after every round, moves or not"
+abbrev pub roundSteps : ℕ → List Step
+roundSteps P = turnSteps 0 P ++ (innerRelief ∷ [])
 
 -- where round i begins, the first being 0
 abbrev pub beginning : ℕ → ℕ → World → World
 beginning P zero w = w
-beginning P (suc i) w = beginning P i (after (roundSteps P w) w)
+beginning P (suc i) w = beginning P i (after (roundSteps P) w)
 
 -- the steps of k rounds
-abbrev pub courseSteps : ℕ → ℕ → World → List Step
-courseSteps P zero w = []
-courseSteps P (suc k) w = roundSteps P w ++ courseSteps P k (after (roundSteps P w) w)
+abbrev pub courseSteps : ℕ → ℕ → List Step
+courseSteps P zero = []
+courseSteps P (suc k) = roundSteps P ++ courseSteps P k
 
 -- a round that begins at w: it had a move, or its relief enlarged
 abbrev pub GoesOn : ℕ → World → Type 0
@@ -79,7 +76,7 @@ pub record Course (P most : ℕ) (w : World) (end : Ended) (rounds : ℕ) : Type
 
 -- what a drive with such a course answers and leaves: "It answers picks and enlargements made."
 abbrev pub drivenBy : ℕ → World → Ended → ℕ → drive.Result
-drivenBy P w end rounds = drive.result (drive.drove end (P * rounds) (grownIn (courseSteps P rounds w) w)) (after (courseSteps P rounds w) w)
+drivenBy P w end rounds = drive.result (drive.drove end (P * rounds) (grownIn (courseSteps P rounds) w)) (after (courseSteps P rounds) w)
 
 -- a drive has a course, and answers and leaves what that says
 pub record HasCourse (budget : ℕ) (w : World) : Type 0 where

@@ -60,7 +60,7 @@ pub record Driven (n : Network) (input : ℕ → List ℤ) (steps : List Step) (
   pub rounds : ℕ
   pub course : Course (n .processes) (budget / (n .processes)) (after steps w) end rounds
   pub drives : drive.driveOf budget (after steps w) ≡ drivenBy (n .processes) (after steps w) end rounds
-  pub continued : Continued n input steps (courseSteps (n .processes) rounds (after steps w)) w
+  pub continued : Continued n input steps (courseSteps (n .processes) rounds) w
 
 abbrev pub ThenDrive : Type 0
 ThenDrive =

@@ -1,4 +1,5 @@
--- How a drive ends, in the words of document 02, 5, read off its course: settled, ceiling and spent exactly where the rounds were such.
+-- How a drive ends, read off its course. Document 02, request 5: "It ends as settled exactly after a round with no move and refusal 13, and as ceiling
+-- exactly after a round with no move and refusal 14." And spent exactly where no round that the budget holds was such.
 -- Assumes nothing.
 use mathlib.Core.Path.{_≡_}
 use mathlib.Core.Logic.{_↔_}
@@ -7,7 +8,7 @@ use Rattle.lane.specs.State.{World}
 use Rattle.drives.specs.Drive.{Ended, settled, ceiling, spent, drove, driveOf}
 use Rattle.courses.specs.Courses.{beginning, GoesOn, Stops}
 
--- round `place` had no move and its relief was refused so, "every round before having moved or enlarged"
+-- round `place` had no move and its relief was refused so, and every round before it had a move or an enlargement
 pub record StopsAt (number P most : ℕ) (w : World) : Type 0 where
   pub place : ℕ
   pub within : place < most
