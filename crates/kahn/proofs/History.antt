@@ -11,7 +11,8 @@ use Rattle.process.specs.Process.{Process}
 use Rattle.lane.specs.declared.Lane.{Lane}
 use Rattle.lane.specs.State.{World, world}
 use Rattle.kahn.specs.Calls.{apply}
-use Rattle.kahn.specs.Steps.{Step, call, innerRelief, larger, relievedLane, afterStep, takenAt, sentAt, movedAt, after, taken, sent, movedIn}
+use Rattle.relief.specs.Relief.{larger}
+use Rattle.kahn.specs.Steps.{Step, call, innerRelief, relievedLane, afterStep, takenAt, sentAt, movedAt, after, taken, sent, movedIn}
 use Rattle.kahn.proofs.Unbounded.{State, Event, happens, movesOf}
 use Rattle.kahn.proofs.Relation.{Related}
 use Rattle.kahn.proofs.Keeps.{enlarge-kept}

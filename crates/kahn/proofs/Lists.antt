@@ -8,10 +8,11 @@ use lib.IntN.{ℤ}
 use Rattle.lane.specs.State.{World}
 use Rattle.lane.proofs.Shape.{Shaped}
 use Rattle.lane.proofs.CallLaws.{Preserves}
+use Rattle.relief.proofs.Enlarged.{kept-both}
 use Rattle.kahn.specs.Calls.{Call, apply, fedBy}
 use Rattle.kahn.specs.Steps.{Step, call, innerRelief, calls, afterStep, fedAt, after, fed, movedIn, grownIn}
 use Rattle.kahn.proofs.Events.{apply-kept}
-use Rattle.kahn.proofs.InnerRelief.{inner-kept, kept-both}
+use Rattle.kahn.proofs.InnerRelief.{inner-kept}
 
 -- ---- one after the other
 pub after-append : (xs ys : List Step) (w : World) → after (xs ++ ys) w ≡ after ys (after xs w)

@@ -5,13 +5,12 @@ use mathlib.Core.Bool.{Bool, true, false, cond, _&&_}
 use mathlib.Core.List.{List, [], _∷_, _++_}
 use Prim.Native.Nat.{ℕ, _+_}
 use lib.IntN.{ℤ}
-use Rattle.process.specs.Channels.{enlargeOne}
 use Rattle.lane.specs.declared.Lane.{Lane}
-use Rattle.lane.specs.State.{World, world, channelOf, putChannel, count}
+use Rattle.lane.specs.State.{World, world, count}
 use Rattle.lane.specs.Sound.{soundOf}
 use Rattle.rings.specs.Rings.{Found, noRing, ceiling, found}
 use Rattle.relief.specs.Relief as relief
-use Rattle.relief.specs.Relief.{foundIn}
+use Rattle.relief.specs.Relief.{foundIn, larger}
 use Rattle.kahn.specs.Calls.{Call, Reply, told, relieved, apply, wasMoved, fedBy, takenBy, sentBy, countOne}
 
 pub data Step : Type 0 where
@@ -28,10 +27,6 @@ calls (k ∷ ks) = call k ∷ calls ks
 -- what it counts: today a relief that enlarged is an accepted call, called or not. No proof of demand 3 looks at it.
 abbrev pub countUncalled : Lane → Lane
 countUncalled l = count l
-
--- channel c "grows by one"
-abbrev pub larger : ℕ → Lane → Lane
-larger c l = putChannel c (enlargeOne (channelOf l c)) l
 
 -- by what the search finds
 abbrev pub enlargedBy : Found → Lane → Lane

@@ -2,13 +2,10 @@
 -- Assumes nothing.
 use mathlib.Core.Path.{_≡_, refl, sym, ap, _∙_}
 use mathlib.Core.Bool.{Bool, true, false, cond}
-use mathlib.Core.Logic.{_⊎_, inl, inr}
 use mathlib.Core.List.{List, [], _∷_}
-use Prim.Native.Nat.{ℕ, zero, suc, _+_, _-_, _≤_, _<_}
+use Prim.Native.Nat.{ℕ, _+_, _-_, _≤_, _<_}
 use native.Mathlib.Numerals.{add-one}
 use native.Mathlib.Omega.{arith}
-use borrow.Author.Tests.{eq-eqb, ne-eqb}
-use lib.Dec.{eqb}
 use lib.IntN.{ℤ}
 use lib.ListN.{length, getD, drop, drop-of-length-le}
 use lib.Seq.{drop-cons}
@@ -16,11 +13,11 @@ use Rattle.network.specs.declared.Network.{Network}
 use Rattle.process.specs.declared.Outcome.the-variants.{Ended}
 use Rattle.lane.specs.State.{World, world}
 use Rattle.lane.specs.Sound.{soundOf}
-use Rattle.lane.specs.Pick.{stepFor, pickIn, hasMoved, Progress, pickNext, pickAll, unpicked, Rounds, roundsEnd, recounted, pickRounds}
+use Rattle.lane.specs.Pick.{stepFor, pickIn, hasMoved, Progress, pickNext, pickAll, unpicked}
 use Rattle.lane.proofs.PickLaws.{pick-sound, pick-cells}
 use Rattle.lane_parts.specs.Parts.{laneOf, Parts, Full, Fixed, Lent}
 use Rattle.lent_picks.specs.Finish.{Picking, Picked}
-use Rattle.lent_rounds.specs.Loops.{Named, Picks, Round, Turns}
+use Rattle.lent_rounds.specs.Loops.{Named, Picks, Round}
 use Rattle.lane_parts.proofs.Lanes.{lane-shaped}
 
 -- ---- the world and the moves do not depend on what the last pick did

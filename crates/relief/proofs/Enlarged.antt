@@ -1,6 +1,6 @@
 -- The channel that relief enlarges is there and below 256; so a relief keeps a lane sound, its network, its cells and the lengths of its arrays.
 -- Assumes nothing.
-use mathlib.Core.Path.{_≡_, refl, ap}
+use mathlib.Core.Path.{_≡_, refl, ap, _∙_}
 use mathlib.Core.Logic.{_⊎_, inl, inr}
 use mathlib.Core.Bool.{Bool, true, false, cond, not}
 use mathlib.Core.List.{List, [], _++_}
@@ -9,13 +9,14 @@ use native.Mathlib.Decide.{decLt}
 use native.Mathlib.Omega.{arith}
 use borrow.Author.Tests.{ltb-true}
 use lib.Dec.{ltb}
+use lib.IntN.{ℤ}
 use lib.ListN.{length, drop}
 use Rattle.process.specs.declared.Channel.{Channel}
 use Rattle.process.specs.declared.Outcome.{Outcome}
 use Rattle.process.specs.declared.Outcome.the-variants.{Moved, Sent, Halted, WaitEmpty, WaitFull, Ended}
 use Rattle.process.specs.Channels.{enlargeOne}
 use Rattle.lane.specs.declared.Lane.{Lane}
-use Rattle.lane.specs.State.{World, world, channelOf}
+use Rattle.lane.specs.State.{World, world, channelOf, count}
 use Rattle.lane.specs.Sound.{soundOf}
 use Rattle.lane.specs.Pick.{instructionFor, stepFor}
 use Rattle.lane.proofs.Shape.{put-channel-shaped, count-shaped}
@@ -24,7 +25,7 @@ use Rattle.lane.proofs.Keeps.{put-channel-sound, count-sound}
 use Rattle.lane.proofs.CallLaws.{Preserves}
 use Rattle.waits.specs.Waits.{waitIn, waitOf, roomIn, channelWaited, pointing, fullWait, waitsAt}
 use Rattle.rings.specs.Rings.{ringOf, least, onRingBelow, firstFrom, Found, noRing, ceiling, found, search}
-use Rattle.relief.specs.Relief.{Relief, relief, refused, enlarged, foundIn, grown, settled, relieveOf}
+use Rattle.relief.specs.Relief.{Relief, relief, refused, enlarged, foundIn, larger, grown, settled, relieveOf}
 use Rattle.rings.proofs.Least.{least-below}
 use Rattle.rings.proofs.First.{first-holds}
 
@@ -108,16 +109,34 @@ enlarge-one : (s r : Bool) (h : Channel) → h .capacity < 256 → ChannelSound 
 enlarge-one s r h b k =
     record { within = omega (arith, k .within); low = omega arith; high = omega arith; place = k .place; shut = k .shut; drained = k .drained }
 
+-- a channel that grows
+pub larger-kept : (l : Lane) (cells : List ℤ) (c : ℕ) → soundOf l ≡ true → Enlargeable l c → Preserves (world l cells) (world (larger c l) cells)
+larger-kept l cells c s e =
+    let k = sound-says l s in
+    record {
+      network = refl;
+      cells = refl;
+      shaped = λ t. put-channel-shaped c (enlargeOne (channelOf l c)) l t;
+      sound = λ t.
+          says-sound _ (put-channel-sound c (enlargeOne (channelOf l c)) l k (λ m. enlarge-one _ _ (channelOf l c) (e .below) (k .channels c m)) (λ m. absurd (omega (arith, e .there))));
+    }
+
+-- the count of accepted calls
+pub count-kept : (l : Lane) (cells : List ℤ) → Preserves (world l cells) (world (count l) cells)
+count-kept l cells =
+    record { network = refl; cells = refl; shaped = λ k. count-shaped l k; sound = λ t. says-sound _ (count-sound l (sound-says l t)) }
+
+pub kept-both : {u v w : World} → Preserves u v → Preserves v w → Preserves u w
+kept-both a b =
+    record {
+      network = b .network ∙ a .network;
+      cells = b .cells ∙ a .cells;
+      shaped = λ k. b .shaped (a .shaped k);
+      sound = λ k. b .sound (a .sound k);
+    }
+
 pub relief-kept : (w : World) (buffer : List ℕ) → Preserves w (world (relieveOf (w .lane) buffer .lane) (w .cells))
 relief-kept w buffer =
     relief-cases (λ (r : Relief). Preserves w (world (r .lane) (w .cells))) (w .lane) buffer
     (λ k. record { network = refl; cells = refl; shaped = λ s. s; sound = λ s. s })
-    (λ ring c buffer′ s e.
-    record {
-      network = refl;
-      cells = refl;
-      shaped = λ k. count-shaped _ (put-channel-shaped c (enlargeOne (channelOf (w .lane) c)) (w .lane) k);
-      sound = λ t.
-          let k = sound-says (w .lane) s in
-          says-sound _ (count-sound _ (put-channel-sound c (enlargeOne (channelOf (w .lane) c)) (w .lane) k (λ m. enlarge-one _ _ (channelOf (w .lane) c) (e .below) (k .channels c m)) (λ m. absurd (omega (arith, e .there)))));
-    })
+    (λ ring c buffer′ s e. kept-both (larger-kept (w .lane) (w .cells) c s e) (count-kept (larger c (w .lane)) (w .cells)))

@@ -45,9 +45,13 @@ relief a l ring = record { answer = a; lane = l; ring = ring }
 abbrev pub foundIn : Lane → Found
 foundIn l = search (pointing l) (fullWait l) (waitsAt l) (l .network .processes)
 
--- "grows by one"; a relief that enlarged is an accepted call
+-- channel c "grows by one"
+abbrev pub larger : ℕ → Lane → Lane
+larger c l = putChannel c (enlargeOne (channelOf l c)) l
+
+-- a relief that enlarged is an accepted call
 abbrev pub grown : ℕ → Lane → Lane
-grown c l = count (putChannel c (enlargeOne (channelOf l c)) l)
+grown c l = count (larger c l)
 
 -- 13, 14, then 15: "where its length hangs on other input that may be refused, 15 is tested last"
 abbrev pub settled : Found → Lane → List ℕ → Relief
