@@ -101,6 +101,7 @@ impl Lane {
     }
 
     /// What a pick of this process would wait for, if it would wait.
+    #[inline]
     pub fn wait(&self, process: usize) -> Option<Wait> {
         if self.has_ended(process) {
             return None;
@@ -114,6 +115,14 @@ impl Lane {
             }
             _ => None,
         }
+    }
+
+    /// Whether some process would wait at a full channel.
+    #[inline(always)]
+    pub(crate) fn has_full_wait(&self) -> bool {
+        let full = |process| matches!(self.wait(process), Some(Wait::Full(_)));
+        (0..self.network.processes.into())
+            .any(|process| self.instruction(process).op == 12 && full(process))
     }
 
     pub fn is_sound(&self) -> bool {

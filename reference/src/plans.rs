@@ -46,6 +46,12 @@ pub fn rings(random: &mut Random) -> Network {
     plan.network(random)
 }
 
+/// A network with a clock or two beside rings, which may be at the largest
+/// capacities.
+pub fn clocked(random: &mut Random) -> Network {
+    Plan::clocked(random).network(random)
+}
+
 /// A lane before its code is written.
 struct Plan {
     styles: Vec<Style>,
@@ -198,23 +204,50 @@ impl Plan {
     /// Rings that fill channels up to the largest capacity.
     fn ceiling(random: &mut Random) -> Plan {
         let mut plan = Plan::with(random.between(1, 3));
-        let near = |random: &mut Random| random.one(&[256, 256, 255, 254, 253]);
         let order = numbers(random, plan.processes());
         let members = &order[..random.between(1, order.len())];
-        for (index, &sender) in members.iter().enumerate() {
-            let receiver = members[(index + 1) % members.len()];
-            let to = plan.join(sender, receiver, near(random));
-            let lap = vec![Turn::Send(to); random.between(8, 60)];
-            plan.styles[sender] = Style::Turns { before: Vec::new(), lap, laps: None };
-        }
+        plan.filling_ring(random, members);
         for &other in &order[members.len()..] {
-            let capacity = if random.percent(50) { near(random) } else { capacity(random) };
+            let near = random.percent(50);
+            let capacity = if near { near_the_largest(random) } else { capacity(random) };
             let to = plan.join(other, other, capacity);
             let lap = vec![Turn::Send(to); random.between(1, 60)];
             plan.styles[other] = Style::Turns { before: Vec::new(), lap, laps: None };
         }
         plan.length = Length::Long;
         plan
+    }
+
+    /// Clocks, which always move, for ever or for some laps, beside rings: some
+    /// whose members send before they receive, some that only fill channels.
+    fn clocked(random: &mut Random) -> Plan {
+        let mut plan = Plan::with(random.between(2, 7));
+        let mut order = numbers(random, plan.processes());
+        let clocks = if order.len() > 2 { random.between(1, 2) } else { 1 };
+        for clock in order.split_off(order.len() - clocks) {
+            let lap = vec![Turn::Work; random.below(3)];
+            let laps = random.percent(40).then(|| random.between(1, 12) as u8);
+            plan.styles[clock] = Style::Turns { before: Vec::new(), lap, laps };
+        }
+        while !order.is_empty() {
+            let members = order.split_off(order.len() - random.between(1, order.len().min(3)));
+            if random.percent(65) {
+                plan.ring(random, &members);
+            } else {
+                plan.filling_ring(random, &members);
+            }
+        }
+        plan
+    }
+
+    /// A ring whose members only send, near the largest capacity.
+    fn filling_ring(&mut self, random: &mut Random, members: &[usize]) {
+        for (index, &sender) in members.iter().enumerate() {
+            let receiver = members[(index + 1) % members.len()];
+            let to = self.join(sender, receiver, near_the_largest(random));
+            let lap = vec![Turn::Send(to); random.between(8, 60)];
+            self.styles[sender] = Style::Turns { before: Vec::new(), lap, laps: None };
+        }
     }
 
     /// Several receives in a row and few picks, so that the listing often ends
@@ -340,6 +373,11 @@ fn few(random: &mut Random, most: usize) -> usize {
         5..=7 => random.between(3, 6),
         _ => random.between(1, most),
     }
+}
+
+/// A capacity at the largest one or a little below.
+fn near_the_largest(random: &mut Random) -> u16 {
+    random.one(&[256, 256, 255, 254, 253])
 }
 
 fn capacity(random: &mut Random) -> u16 {

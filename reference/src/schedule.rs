@@ -1,5 +1,5 @@
 //! A run, which follows a list of pick bytes, and the driver, which picks in
-//! turn and relieves by itself.
+//! turn and tries relief after every round.
 
 use crate::calls::{test_sound, Answer};
 use crate::lane::{Cells, Lane};
@@ -62,7 +62,9 @@ pub(crate) fn test_picks(lane: &Lane, picks: &[u8]) -> Result<(), Refusal> {
     Ok(())
 }
 
-/// Picks all processes in turn, round after round, with so many picks at most.
+/// Picks all processes in turn, round after round, with so many picks at most,
+/// and tries relief once after each round, the last one too. Refusals 13 and 14
+/// end it only after a round without a move.
 pub fn drive(lane: &mut Lane, cells: &mut [i32], picks: u64) -> Result<Driven, Refusal> {
     let cells: &mut Cells = cells.try_into().map_err(|_| Refusal::Buffer)?;
     test_sound(lane)?;
@@ -75,11 +77,11 @@ pub fn drive(lane: &mut Lane, cells: &mut [i32], picks: u64) -> Result<Driven, R
             moved |= lane.step(cells, usize::from(process)) == Answer::Moved;
         }
         driven.picks += round;
-        if moved {
-            continue;
-        }
-        match lane.relieve() {
+        // After most rounds there is nothing to relieve, and no need to search.
+        let relieved = if lane.has_full_wait() { lane.relieve() } else { Err(Refusal::NoRing) };
+        match relieved {
             Ok(_) => driven.enlarged += 1,
+            Err(_) if moved => {}
             Err(Refusal::Ceiling) => return Ok(Driven { end: End::Ceiling, ..driven }),
             Err(_) => return Ok(Driven { end: End::Settled, ..driven }),
         }

@@ -9,7 +9,7 @@ use reference::lane::{Condition, Lane};
 use reference::network::{code, Instruction, Network};
 use reference::refusal::Refusal;
 use reference::relief::{relieve, Relieved};
-use reference::schedule::{drive, run, Driven, End, Ran};
+use reference::schedule::{drive, run, Ran};
 
 /// Channels: 0 in, 1 out, 2 from 0 to 1, 3 from 1 to itself. Process 0 passes
 /// on from 0 to 2, process 1 from 2 to 1.
@@ -277,30 +277,6 @@ fn a_closed_channel_faults_full_or_not() {
             assert_eq!(lane.channels[0].held, held);
         }
     }
-}
-
-#[test]
-fn driver() {
-    // Two on each other's empty channels: settled after one round, even where
-    // the picks are just spent.
-    let programs: [&[Instruction]; 2] = [&[code(11, 0, 1, 0), STOP], &[code(11, 0, 0, 0), STOP]];
-    let dead = fresh(&programs, &[channel(0, 1, 1), channel(1, 0, 1)]);
-    let driven = |lane: &Lane, picks| drive(&mut lane.clone(), &mut cells()[..], picks);
-    let of = |end, picks, enlarged| Ok(Driven { end, picks, enlarged });
-    assert_eq!(driven(&dead, 0), of(End::Spent, 0, 0));
-    assert_eq!(driven(&dead, 1), of(End::Spent, 0, 0));
-    assert_eq!(driven(&dead, 2), of(End::Settled, 2, 0));
-    assert_eq!(driven(&dead, u64::MAX), of(End::Settled, 2, 0));
-    // A self-channel that only grows: send, jump, wait and grow.
-    let filler = fresh(&[&[code(12, 0, 0, 0), code(8, 0, 0, 0)]], &[channel(0, 0, 254)]);
-    assert_eq!(driven(&filler, 508), of(End::Spent, 508, 0));
-    assert_eq!(driven(&filler, 509), of(End::Spent, 509, 1));
-    assert_eq!(driven(&filler, 512), of(End::Spent, 512, 2));
-    assert_eq!(driven(&filler, 514), of(End::Spent, 514, 2));
-    assert_eq!(driven(&filler, 515), of(End::Ceiling, 515, 2));
-    // All ended.
-    let ended = fresh(&[&[STOP]], &[channel(0, 0, 1)]);
-    assert_eq!(driven(&ended, 5), of(End::Settled, 2, 0));
 }
 
 #[test]

@@ -366,17 +366,21 @@ fn reliefs() {
          relieve 0|: refused 15; buffer
          relieve 3|: enlarged 0 ring 1; buffer 0 99 99; channel 0 capacity 2 oldest 0 held 1 open; accepted 1
          relieve 1|: refused 13; buffer 99
-         drive 5|: spent picks 5 enlarged 1; process 0 position 0 live moves 6; channel 0 capacity 3 oldest 0 held 3 open; cell 1 is 0; cell 2 is 0; accepted 2
-         run 0 255 0 0|: moved 2 enlarged 1; process 0 position 0 live moves 8; channel 0 capacity 4 oldest 0 held 4 open; cell 3 is 0; accepted 3
+         drive 5|: spent picks 5 enlarged 2; process 0 position 1 live moves 7; channel 0 capacity 4 oldest 0 held 4 open\
+; cell 1 is 0; cell 2 is 0; cell 3 is 0; accepted 3
+         run 0 255 0 0|: moved 3 enlarged 1; process 0 position 0 live moves 10; channel 0 capacity 5 oldest 0 held 5 open; cell 4 is 0; accepted 4
          make channel 0 capacity 256 oldest 9 held 256 open|
          relieve 0|: refused 14; buffer
          run 255 0|: moved 0 enlarged 0
          drive 9|: ceiling picks 1 enlarged 0
          make channel 0 capacity 255 oldest 9 held 255 open|
          make register 0 7|
-         drive 18446744073709551615|: ceiling picks 4 enlarged 1; process 0 position 0 live moves 10; channel 0 capacity 256 oldest 9 held 256 open; cell 8 is 7; accepted 4
+         drive 18446744073709551615|: ceiling picks 4 enlarged 1; process 0 position 0 live moves 12; channel 0 capacity 256 oldest 9 held 256 open; cell 8 is 7; accepted 5
          lane detour.bin|
-         drive 8|: spent picks 8 enlarged 0; process 0 position 0 live moves 4; channel 0 capacity 2 oldest 0 held 2 open; cell 0 is 0; cell 1 is 0
+         drive 8|: spent picks 8 enlarged 1; process 0 position 0 live moves 4; channel 0 capacity 3 oldest 0 held 2 open; cell 0 is 0; cell 1 is 0; accepted 1
+         lane detour.bin|
+         drive 7|: spent picks 6 enlarged 0; process 0 position 1 live moves 3; channel 0 capacity 2 oldest 0 held 2 open; cell 0 is 0; cell 1 is 0
+         pick 0|: moved; process 0 position 0 live moves 4
          relieve 1|: refused 15; buffer 99
          relieve 2|: enlarged 0 ring 2; buffer 0 1; channel 0 capacity 3 oldest 0 held 2 open; accepted 1
          lane both.bin|
