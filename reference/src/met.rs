@@ -4,8 +4,10 @@
 use crate::bench::Watch;
 use crate::calls::Answer;
 use crate::coverage::{names_of_none, Counted, Picks};
-use crate::lane::{Channel, Lane, Wait, CELLS};
-use crate::network::{CAPACITY, CHANNELS, OUTSIDE};
+use crate::lane::{Cells, Channel, Lane, Wait, CELLS};
+use crate::network::{CAPACITY, CHANNELS, OUTSIDE, PROCESSES};
+use crate::refusal::Refusal;
+use crate::relief::Ring;
 use crate::script::{Call, Line};
 use std::collections::BTreeMap;
 use std::fmt;
@@ -53,8 +55,9 @@ const TAKE: &[&str] =
 pub struct Played<'a> {
     pub text: &'a str,
     pub line: Line<'a>,
-    /// The lane and the cells lent before it.
+    /// The lane before it, for a drive the cells too, and how many were lent.
     pub before: &'a Lane,
+    pub cells: Vec<i32>,
     pub room: usize,
     pub after: &'a Lane,
     /// All that was printed after it.
@@ -196,6 +199,47 @@ impl Met {
         let settled = answer == "settled";
         self.meet("drive: settled in its first round", settled && made == processes);
         self.meet("drive: settled with no round left", settled && picks - made < processes);
+        let ceiling = answer == "ceiling";
+        self.meet("drive: ceiling with no round left", ceiling && picks - made < processes);
+        let rounds = rounds(lane, &played.cells, made / processes);
+        self.rounds(&rounds, answer);
+    }
+
+    /// The rounds of a drive.
+    fn rounds(&mut self, rounds: &[Round], answer: &str) {
+        let [settled, ceiling, spent] = ["settled", "ceiling", "spent"].map(|end| answer == end);
+        let met = |kind: &dyn Fn(&Round) -> bool| rounds.iter().any(kind);
+        let enlarged = |round: &Round| round.relieved.is_ok();
+        let moved = met(&|round| enlarged(round) && round.moved);
+        self.meet("drive: enlarged after a move", moved);
+        self.meet("drive: enlarged after no move", met(&|round| enlarged(round) && !round.moved));
+        self.meet("drive: enlarged after a move, settled", moved && settled);
+        self.meet("drive: enlarged after a move, ceiling", moved && ceiling);
+        // Before request 5 these were not relieved.
+        let busy = rounds.iter().all(|round| round.moved);
+        self.meet("drive: enlarged, a move in every round", moved && busy);
+        let beside = met(&|round| round.beside);
+        self.meet("drive: enlarged a stuck ring beside a clock", beside);
+        self.meet("drive: enlarged a stuck ring beside a clock, all rounds move", beside && busy);
+        let freed = rounds.windows(2).any(|two| two[0].beside && two[1].ring_moved);
+        self.meet("drive: enlarged a stuck ring beside a clock, it moved", freed);
+        let last = |moved| {
+            spent && rounds.last().is_some_and(|round| enlarged(round) && round.moved == moved)
+        };
+        self.meet("drive: enlarged after the last round, a move, spent", last(true));
+        self.meet("drive: enlarged after the last round, no move, spent", last(false));
+        self.meet("drive: enlarged after the only round, spent", last(true) && rounds.len() == 1);
+        let passed = |round: &Round| round.moved && round.relieved == Err(Refusal::Ceiling);
+        self.meet("drive: 14 after a move", met(&passed));
+        self.meet("drive: 14 after a move, spent", met(&passed) && spent);
+        self.meet("drive: 14 after a move, ceiling", met(&passed) && ceiling);
+        let later = rounds.iter().skip_while(|round| !passed(round)).any(enlarged);
+        self.meet("drive: 14 after a move, enlarged later", later);
+        // Relief hangs on the state after the round, and not on its picks.
+        let unseen = met(&|round| enlarged(round) && !round.waited_full);
+        self.meet("drive: enlarged though no pick waited full", unseen);
+        let gone = met(&|round| round.waited_full && round.relieved == Err(Refusal::NoRing));
+        self.meet("drive: 13 though a pick waited full", gone);
     }
 
     fn pick(&mut self, lane: &Lane, process: usize, answer: &str) {
@@ -328,6 +372,42 @@ impl Met {
         let special = self.special.iter().map(|(name, &count)| (name.to_string(), count));
         self.picks.counts().into_iter().chain(special).collect()
     }
+}
+
+/// A round of a drive and the relief after it.
+struct Round {
+    moved: bool,
+    /// A pick answered waiting-full.
+    waited_full: bool,
+    relieved: Result<Ring, Refusal>,
+    /// It enlarged a ring of which none moved, though another process did.
+    beside: bool,
+    /// A process moved that stands on the ring enlarged after the round before.
+    ring_moved: bool,
+}
+
+/// So many rounds of a drive.
+fn rounds(lane: &Lane, cells: &[i32], count: u64) -> Vec<Round> {
+    let mut lane = lane.clone();
+    let mut cells: Cells = cells.try_into().expect("the cells of a drive");
+    let mut rounds: Vec<Round> = Vec::new();
+    for _ in 0..count {
+        let mut moves = [false; PROCESSES];
+        let mut waited_full = false;
+        for process in 0..lane.network.processes.into() {
+            let answer = lane.step(&mut cells, process);
+            moves[process] = answer == Answer::Moved;
+            waited_full |= matches!(answer, Answer::WaitingFull(_));
+        }
+        let moved = moves.contains(&true);
+        let relieved = lane.relieve();
+        let moved_of = |ring: Ring| ring.members().iter().any(|&member| moves[usize::from(member)]);
+        let beside = moved && relieved.is_ok_and(|ring| !moved_of(ring));
+        let before = rounds.last().and_then(|round| round.relieved.ok());
+        let ring_moved = before.is_some_and(moved_of);
+        rounds.push(Round { moved, waited_full, relieved, beside, ring_moved });
+    }
+    rounds
 }
 
 /// Whether the ring on which a process stands has a full wait, if it stands on

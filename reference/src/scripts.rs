@@ -12,7 +12,7 @@ use crate::plans;
 use crate::random::Random;
 use crate::replay::Replay;
 use crate::schedule::{drive, End, RELIEF};
-use crate::script::{parse, Edit, Line};
+use crate::script::{parse, Call, Edit, Line};
 use std::io;
 use std::path::Path;
 
@@ -35,7 +35,11 @@ impl Scripts<'_> {
         let number = self.met.scripts;
         self.met.scripts += 1;
         let random = &mut self.random;
-        let network = if random.percent(80) { plans::lane(random) } else { plans::rings(random) };
+        let network = match random.below(100) {
+            0..=67 => plans::lane(random),
+            68..=83 => plans::rings(random),
+            _ => plans::clocked(random),
+        };
         let intact = file::bytes_of(&network);
         let mut damaged = intact.clone();
         damage::file(random, &network, &mut damaged);
@@ -92,7 +96,11 @@ impl<'a> Script<'a> {
     }
 
     fn answer(&mut self, text: &str) -> io::Result<String> {
+        let line = parse(text.as_bytes());
         let before = self.replay.state.lane.clone();
+        // What a drive met is seen by making it once more.
+        let drives = matches!(line, Line::Call(Call::Drive(_)));
+        let cells = if drives { self.replay.state.cells[..CELLS].to_vec() } else { Vec::new() };
         let room = self.replay.room;
         let mut out = Vec::new();
         self.replay.play_line(text.as_bytes(), &mut out)?;
@@ -100,11 +108,10 @@ impl<'a> Script<'a> {
         self.text += "\n";
         let printed = String::from_utf8(out).expect("scripts here are text");
         let printed = &printed[text.len()..];
-        let line = parse(text.as_bytes());
         let calls = matches!(line, Line::Call(_) | Line::Write(_));
         let sound = calls && before.is_sound();
         let (before, after) = (&before, &self.replay.state.lane);
-        self.met.count(&Played { text, line, before, room, after, printed }, sound);
+        self.met.count(&Played { text, line, before, cells, room, after, printed }, sound);
         Ok(printed.to_string())
     }
 
