@@ -1,8 +1,10 @@
-// Some five million picks on three fixed lanes, a ring of two, a pipeline of sixteen, an arithmetic loop: in runs, and in drives; and in runs a message
-// between two processes, one that sends and one that receives, in turn. An argument names one of the three, `run`, `drive` or `message`, by its first
-// letter, for a count of the instructions that a pick takes, or a message; without one all are made. Prints how many picks moved.
+// Some five million picks on three fixed lanes, a ring of two, a pipeline of sixteen, an arithmetic loop: in runs, and in drives; in runs a message
+// between two processes, one that sends and one that receives, in turn; and in drives two that wait for each other beside a clock. An argument names one
+// of the four, `run`, `drive`, `message` or `stuck`, by its first letter, for a count of the instructions that a pick takes, or a message; without one all
+// are made. Prints how many picks moved.
 use lane::Lane;
 use lane_file::Answer;
+use network::Network;
 
 const OUT: i32 = 1;
 
@@ -57,6 +59,13 @@ fn laps(lane: Lane, cells: &mut [i32], picks: &[u8], drives: bool) -> u64 {
     moves(l)
 }
 
+fn report(name: &[u8], moved: u64) {
+    io::write_all(OUT, name);
+    io::write_all(OUT, b": ");
+    io::print_decimal(OUT, moved);
+    io::write_all(OUT, b" moves\n");
+}
+
 fn pace(name: &[u8], file: &[u8], drives: bool) {
     let reading = lane_reader::read(file);
     let answer = reading.answer;
@@ -69,10 +78,7 @@ fn pace(name: &[u8], file: &[u8], drives: bool) {
             &round_robin(net.processes),
             drives,
         );
-        io::write_all(OUT, name);
-        io::write_all(OUT, b": ");
-        io::print_decimal(OUT, moved);
-        io::write_all(OUT, b" moves\n");
+        report(name, moved);
     }
 }
 
@@ -94,6 +100,31 @@ fn messages() {
     pace(b"message", &file, false);
 }
 
+// 407 drives of 4,096 picks, each from the fresh lane.
+fn fresh_laps(net: Network, cells: &mut [i32]) -> u64 {
+    let mut sum: u64 = 0;
+    let mut k: usize = 0;
+    while k < 407 {
+        let driven = drives::drive(lane_sound::fresh(net), cells, 4096);
+        sum = std::num::wrapping_add_u64(sum, moves(driven.lane));
+        k += 1;
+    }
+    sum
+}
+
+// Process 0 is a clock, which jumps to itself for ever. 1 and 2 each send 100 messages to the other, then receive 100 and jump back, over channels of 1 at
+// first: in rounds 1 to 197 of a drive they wait for each other in a ring, and each relief enlarges one of the two channels, while the clock moves.
+fn stuck() {
+    let mut file = [0u8; 2560];
+    io::read_full(os::open_read(b"stuck.bin"), &mut file);
+    let reading = lane_reader::read(&file);
+    let answer = reading.answer;
+    if let Answer::Accepted = answer {
+        let mut cells = [0i32; 8192];
+        report(b"stuck", fresh_laps(reading.network, &mut cells));
+    }
+}
+
 fn main() {
     let mut word = [0u8; 8];
     os::arg(1, &mut word);
@@ -106,5 +137,8 @@ fn main() {
     }
     if what == 0 || what == 109 {
         messages();
+    }
+    if what == 0 || what == 115 {
+        stuck();
     }
 }
