@@ -394,9 +394,10 @@ fn rounds(lane: &Lane, cells: &[i32], count: u64) -> Vec<Round> {
     for _ in 0..count {
         let mut moves = [false; PROCESSES];
         let mut waited_full = false;
-        for process in 0..lane.network.processes.into() {
+        let processes = usize::from(lane.network.processes);
+        for (process, moved) in moves[..processes].iter_mut().enumerate() {
             let answer = lane.step(&mut cells, process);
-            moves[process] = answer == Answer::Moved;
+            *moved = answer == Answer::Moved;
             waited_full |= matches!(answer, Answer::WaitingFull(_));
         }
         let moved = moves.contains(&true);
