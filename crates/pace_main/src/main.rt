@@ -113,7 +113,7 @@ fn fresh_laps(net: Network, cells: &mut [i32]) -> u64 {
 }
 
 // Process 0 is a clock, which jumps to itself for ever. 1 and 2 each send 100 messages to the other, then receive 100 and jump back, over channels of 1 at
-// first: in rounds 1 to 197 of a drive they wait for each other in a ring, and each relief enlarges one of the two channels, while the clock moves.
+// first: after each of rounds 1 to 197 of a drive they wait for each other in a ring, and one of the two channels grows, while the clock moves.
 fn stuck() {
     let mut file = [0u8; 2560];
     io::read_full(os::open_read(b"stuck.bin"), &mut file);
