@@ -139,9 +139,9 @@ module _ {again : ℕ} {picks : List ℕ} {used : ℕ} {f : Fixed} {t₀ : Parts
       full-then : Full t″
       full-then = record { file = d .full .file; sixteen = d .full .sixteen; thirtyTwo = e .thirtyTwo }
 
-      one-or-none : (b : Bool) → eased ≡ cond b 1 0 → (eased ≤ 1) × (eqb eased 0 ≡ not b)
-      one-or-none true q = (omega arith, rw q)
-      one-or-none false q = (omega arith, rw q)
+      none-eased : (b : Bool) → eased ≡ cond b 1 0 → eqb eased 0 ≡ not b
+      none-eased true q = rw q
+      none-eased false q = rw q
 
       module _ (n : Network) (accepted : ℕ) (lent : Lent n f) (sound : soundOf (laneOf n accepted t₀) ≡ true) (named : Named picks n) (all : used ≡ n .processes) where
         abbrev after : Lane
@@ -152,7 +152,7 @@ module _ {again : ℕ} {picks : List ℕ} {used : ℕ} {f : Fixed} {t₀ : Parts
         eases = e .leaves after (shows n (countedBy enlarged accepted) (d .full) lent) (ready-then n accepted lent sound named all .sound) all
 
         idle-is : idle (rounded n accepted lent sound named all) ≡ (eqb moved 0 && eqb eased 0)
-        idle-is = ap (λ (b : Bool). eqb moved 0 && b) (sym (one-or-none (hasGrown (relieveOf after (replicate 16 0) .answer)) (eases .0) .1))
+        idle-is = ap (λ (b : Bool). eqb moved 0 && b) (sym (none-eased (hasGrown (relieveOf after (replicate 16 0) .answer)) (eases .0)))
 
         more-counted : countedBy (enlarged + eased) accepted ≡ countedBy eased (countedBy enlarged accepted)
         more-counted = counted-more enlarged eased accepted
@@ -170,10 +170,6 @@ module _ {again : ℕ} {picks : List ℕ} {used : ℕ} {f : Fixed} {t₀ : Parts
         ready-after : Ready n (world (laneOf n (countedBy (enlarged + eased) accepted) t″) cells′)
         ready-after = rw (more-counted, eases .1) (ready-relief n (world after cells′) (replicate 16 0) (ready-then n accepted lent sound named all))
 
-      pub few-eased : eased ≤ 1
-      few-eased =
-          one-or-none (hasGrown (relieveOf (laneOf there (countedBy enlarged 0) t′) (replicate 16 0) .answer)) (eases there 0 (k .picking .lent) (k .picking .sound) (k .picking .named) (k .all) .0) .0
-
       -- the round was idle
       pub rounds-idle : (eqb moved 0 && eqb eased 0) ≡ true → Turns again picks used f t₀ cells₀ moved left enlarged t″ cells′
       rounds-idle z =
@@ -188,7 +184,7 @@ module _ {again : ℕ} {picks : List ℕ} {used : ℕ} {f : Fixed} {t₀ : Parts
                 let q = eases n accepted lent sound named all in
                 let i : idle (roundOf picks (begins n accepted lent sound named all)) ≡ true = ap idle (round-is n accepted lent sound named all) ∙ idle-is n accepted lent sound named all ∙ z in
                 let b : Bool = hasGrown (relieveOf l (replicate 16 0) .answer) in
-                let still = ungrown l (replicate 16 0) (not-true b (sym (one-or-none b (q .0) .1) ∙ eq-eqb eased 0 none)) in
+                let still = ungrown l (replicate 16 0) (not-true b (sym (none-eased b (q .0)) ∙ eq-eqb eased 0 none)) in
                 let same : laneOf n (countedBy enlarged accepted) t″ ≡ l = (rw none at (q .1)) ∙ still in (
                   ends-so n accepted lent sound named all
                       (idle-round left picks (begins n accepted lent sound named all) i
@@ -204,7 +200,7 @@ module _ {again : ℕ} {picks : List ℕ} {used : ℕ} {f : Fixed} {t₀ : Parts
           record {
             long = d .long;
             full = full-then;
-            few = omega (arith, s .few, few-eased);
+            few = omega (arith, s .few, e .few);
             leads =
                 λ n accepted lent sound named all. (
                   ready-after n accepted lent sound named all,

@@ -1,12 +1,12 @@
 -- The bytes of a run on lent arrays: what the loop over their stretches keeps, whatever network it is.
 -- Assumes nothing.
 use mathlib.Core.Path.{_≡_, refl, ap}
-use mathlib.Core.Bool.{Bool, true, false, cond}
+use mathlib.Core.Bool.{true}
 use mathlib.Core.List.{List}
 use Prim.Native.Nat.{ℕ, _+_, _≤_, _<_}
 use native.Mathlib.Omega.{arith}
 use lib.IntN.{ℤ}
-use lib.ListN.{length, getD, replicate}
+use lib.ListN.{length, getD}
 use Rattle.network.specs.declared.Network.{Network}
 use Rattle.lane.specs.State.{world}
 use Rattle.lane.specs.Sound.{soundOf}
@@ -14,9 +14,8 @@ use Rattle.lane.specs.Pick.{Progress, pickAll, unpicked}
 use Rattle.lane_parts.specs.Parts.{laneOf, Parts, Full, Fixed, Lent}
 use Rattle.lane_parts.proofs.Lanes.{lane-shaped, sound-counted}
 use Rattle.lent_rounds.specs.Loops.{Course, Rounding, Turns}
-use Rattle.relief.specs.Relief.{relieveOf}
 use Rattle.waits.specs.Lent.{Relievable}
-use Rattle.schedule.specs.Running.{running, hasGrown}
+use Rattle.schedule.specs.Running.{running}
 use Rattle.schedule.specs.Lent.{countedBy, Playable, EasedBy}
 use Rattle.schedule.proofs.Lent.{withCapacity, seen, shows, relievable}
 use Rattle.runs.specs.Stretches.{Stretch}
@@ -91,16 +90,6 @@ module _ {bytes : List ℕ} {used : ℕ} {f : Fixed} {accepted₀ : ℕ} {t₀ :
   -- ---- a relief
   pub relief-there : Relievable used (seen f t)
   relief-there = relievable accepted (k .lent) (k .all) (s .full) (here .ready .sound)
-
-  one-or-none : (b : Bool) {gain : ℕ} → gain ≡ cond b 1 0 → gain ≤ 1
-  one-or-none true e = omega arith
-  one-or-none false e = omega arith
-
-  -- it enlarges one channel at most
-  pub few-gained : {gain : ℕ} {capacity′ : List ℕ} → EasedBy used (seen f t) gain capacity′ → gain ≤ 1
-  few-gained d =
-      one-or-none (hasGrown (relieveOf (laneOf (k .network) accepted t) (replicate 16 0) .answer))
-      (d .leaves (laneOf (k .network) accepted t) (shows (k .network) accepted (s .full) (k .lent)) (here .ready .sound) (k .all) .0)
 
   module _ {gain accepted′ : ℕ} {capacity′ : List ℕ} (h : i < length bytes) (x : getD bytes i 0 ≡ 255)
       (d : EasedBy used (seen f t) gain capacity′) (a : accepted′ ≡ countedBy gain accepted) where

@@ -1,7 +1,7 @@
 -- The arrays of a lane as a relief sees them, and a relief with room for any ring.
 -- Assumes nothing.
 use mathlib.Core.Path.{_≡_, refl, sym, ap, _∙_}
-use mathlib.Core.Bool.{true, false, cond}
+use mathlib.Core.Bool.{Bool, true, false, cond}
 use mathlib.Core.List.{List}
 use Prim.Native.Nat.{ℕ, zero, suc, _+_, _-_, _≤_, _<_, min}
 use native.Mathlib.Omega.{arith}
@@ -78,11 +78,16 @@ eased-is {used} {v} {r} {capacity′} e =
     }
 
 -- how many channels it enlarged
+one-or-none : (b : Bool) {k : ℕ} → k ≡ cond b 1 0 → k ≤ 1
+one-or-none true e = omega arith
+one-or-none false e = omega arith
+
 pub gained-by : {used : ℕ} {v : Arrays} {r : ReliefAnswer} {capacity′ : List ℕ} {gain : ℕ} → Relieved used v r (cond (hasGrown (told r)) 1 0) capacity′ → gain ≡ cond (hasGrown (told r)) 1 0
     → EasedBy used v gain capacity′
-gained-by d e =
+gained-by {r = r} d e =
     record {
       thirtyTwo = d .thirtyTwo;
+      few = one-or-none (hasGrown (told r)) e;
       leaves = λ l shows sound all. let q = d .leaves l shows sound all in (e ∙ ap (λ (a : Told). cond (hasGrown a) 1 0) (q .0), rw e (q .1));
     }
 
@@ -91,6 +96,7 @@ pub unwanted-by : {used : ℕ} {v : Arrays} → Relievable used v → RoomsLooke
 unwanted-by {v = v} k none =
     record {
       thirtyTwo = k .long .thirtyTwo;
+      few = omega arith;
       leaves =
           λ l shows sound all.
           let q = unwanted-relief l sound (sym (none l shows sound all)) (replicate 16 0) in

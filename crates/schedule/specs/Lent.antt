@@ -3,7 +3,7 @@
 use mathlib.Core.Path.{_≡_}
 use mathlib.Core.Bool.{true, cond}
 use mathlib.Core.List.{List}
-use Prim.Native.Nat.{ℕ, zero, suc}
+use Prim.Native.Nat.{ℕ, zero, suc, _≤_}
 use lib.IntN.{ℤ}
 use lib.ListN.{length, replicate}
 use Rattle.network.specs.declared.Network.{Network}
@@ -48,6 +48,7 @@ pub record Relieved (used : ℕ) (v : Arrays) (r : ReliefAnswer) (enlarged : ℕ
 -- the same, by how many channels it enlarged, one or none
 pub record EasedBy (used : ℕ) (v : Arrays) (enlarged : ℕ) (capacity′ : List ℕ) : Type 0 where
   pub thirtyTwo : ThirtyTwo capacity′ (v .oldest) (v .held) (v .closed)
+  pub few : enlarged ≤ 1
   pub leaves :
       (l : Lane) → Shows v l → soundOf l ≡ true → used ≡ l .network .processes
       → (enlarged ≡ cond (hasGrown (relieveOf l (replicate 16 0) .answer)) 1 0)

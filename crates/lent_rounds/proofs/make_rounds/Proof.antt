@@ -4,7 +4,7 @@ use mathlib.Core.Path.{sym, _∙_}
 use native.Mathlib.Omega.{arith}
 use borrow.Author.Needs.{needs}
 use Rattle.lane_parts.specs.Parts.{parts, fixed}
-use Rattle.lent_rounds.proofs.Relieved.{Between, rounds-begin, picks-here, rounds-last, relief-here, few-eased, rounds-idle, rounds-more}
+use Rattle.lent_rounds.proofs.Relieved.{Between, rounds-begin, picks-here, rounds-last, relief-here, rounds-idle, rounds-more}
 use Rattle.lent_rounds.proofs.make_rounds.Statement.{statement}
 use Rattle.lent_rounds.proofs.make_rounds.Tie as tie
 
@@ -45,7 +45,7 @@ add-enlarged c =
     let e = c .before .before in
     let r = round-of e in
     let l = loop-of r in
-    omega (arith, few-eased (l .before .before .pre) (l .loop .inv) (r .round-in .ensures) (e .ease-in .ensures), l .loop .inv .few, l .before .before .fits .again, e .before .before .before .before .before .before .before .if1 .left)
+    omega (arith, e .ease-in .ensures .few, l .loop .inv .few, l .before .before .fits .again, e .before .before .before .before .before .before .before .if1 .left)
 
 sub-left : tie.Need-sub-left Inv-loop μ-loop
 sub-left c = omega (arith, c .before .before .before .before .before .before .before .before .before .if1 .left)

@@ -9,7 +9,7 @@ use lib.ListN.{length}
 use Rattle.base.specs.Tests.{firstBad, isGood}
 use Rattle.lane_parts.specs.Parts.{parts, fixed}
 use Rattle.runs.specs.Stretches.{isPick}
-use Rattle.runs.proofs.Ways.{Way, way-begins, here, picks-there, way-stretch, relief-there, few-gained, way-relief, way-ends}
+use Rattle.runs.proofs.Ways.{Way, way-begins, here, picks-there, way-stretch, relief-there, way-relief, way-ends}
 use Rattle.runs.proofs.bytes_in.Statement.{statement}
 use Rattle.runs.proofs.bytes_in.Tie as tie
 
@@ -80,10 +80,8 @@ add-enlarged : tie.Need-add-enlarged Inv-loop μ-loop
 add-enlarged c =
     let r = rounds-of c in
     let l = loop-of r in
-    let k = start-of l .pre .0 in
-    let w = way-stretch k (l .loop .inv .0) (stretch-of r .stretch .ensures) (r .rounds-in .ensures) in
-    let p = here k w in
-    omega (arith, few-gained k w (c .ease-in .ensures), p .grows, p .within)
+    let w = here (start-of l .pre .0) (l .loop .inv .0) in
+    omega (arith, c .ease-in .ensures .few, w .grows, w .within)
 
 count-by-requires : tie.Need-count-by-requires Inv-loop μ-loop
 count-by-requires c κs = search needs
