@@ -129,9 +129,9 @@ module _ (n : Network) where
       (follows k (m + 1) (leftAfter (round r)) s′))
 
 -- ---- a drive of a sound lane, with its cells
-pub has-course : (budget : ℕ) (w : World) → Ready (w .lane .network) w → HasCourse budget w
+pub course-ready : (budget : ℕ) (w : World) → Ready (w .lane .network) w → HasCourse budget w
 unfolding driveOf
-has-course budget w s =
+course-ready budget w s =
     let P : ℕ = w .lane .network .processes in
     let d : Drive = rounds (budget / P) 0 (begun w) in
     let f = follows (w .lane .network) (budget / P) 0 (begun w) s in
@@ -188,13 +188,13 @@ module _ (P most : ℕ) (w : World) where
   same-end spent ceiling going r r′ s t = absurd (omega (arith, s .1, t .1))
   same-end spent spent going r r′ s t = (refl, s .0 ∙ sym (t .0))
 
-  pub one-course : (e e′ : Ended) (r r′ : ℕ) → Course P most w e r → Course P most w e′ r′ → (e ≡ e′) × (r ≡ r′)
-  one-course e e′ r r′ t t′ =
+  pub course-one : (e e′ : Ended) (r r′ : ℕ) → Course P most w e r → Course P most w e′ r′ → (e ≡ e′) × (r ≡ r′)
+  course-one e e′ r r′ t t′ =
       same-end e e′ (t .going) r r′ (t .last) (subst⁻¹ (λ (g : ℕ). EndsSo e′ P most w g r′) (same-going e e′ r r′ t t′) (t′ .last))
 
-pub exactly : (budget : ℕ) (w : World) → Ready (w .lane .network) w → Exactly budget w
-exactly budget w s e r t =
+pub exactly-ready : (budget : ℕ) (w : World) → Ready (w .lane .network) w → Exactly budget w
+exactly-ready budget w s e r t =
     let P : ℕ = w .lane .network .processes in
-    let c = has-course budget w s in
-    let q = one-course P (budget / P) w (c .end) e (c .rounds) r (c .course) t in
+    let c = course-ready budget w s in
+    let q = course-one P (budget / P) w (c .end) e (c .rounds) r (c .course) t in
     c .drives ∙ (λ i. drivenBy P w (q .0 i) (q .1 i))

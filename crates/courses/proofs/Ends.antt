@@ -24,8 +24,8 @@ use Rattle.kahn.proofs.Whole.{one-board-holds}
 use Rattle.courses.specs.Courses.{byteSteps, turnSteps, roundSteps, courseSteps, Course, drivenBy}
 use Rattle.courses.specs.Ends.{isInner, Inner, Continued, ThenRun, ThenDrive}
 use Rattle.courses.proofs.Inside.{ready-steps}
-use Rattle.courses.proofs.Runs.{run-is}
-use Rattle.courses.proofs.Courses.{has-course}
+use Rattle.courses.proofs.Runs.{run-ready}
+use Rattle.courses.proofs.Courses.{course-ready}
 
 -- ---- which steps are inside
 inner-append : (xs ys : List Step) → Inner xs → Inner ys → Inner (xs ++ ys)
@@ -119,13 +119,13 @@ module _ (f : List ℕ) (n : Network) (reads : ReadAs f n) (cells : List ℤ) (m
 
 pub then-run : ThenRun
 then-run f n reads cells many input steps fair bytes e =
-    (run-is n bytes (after steps (board n cells)) (ready-board f n reads cells many input steps fair) e, continue f n reads cells many input steps fair (byteSteps bytes) (inner-bytes bytes))
+    (run-ready n bytes (after steps (board n cells)) (ready-board f n reads cells many input steps fair) e, continue f n reads cells many input steps fair (byteSteps bytes) (inner-bytes bytes))
 
 pub then-drive : ThenDrive
 then-drive f n reads cells many input steps fair budget =
     let w : World = after steps (board n cells) in
     let s = ready-board f n reads cells many input steps fair in
-    let c = has-course budget w (subst⁻¹ (λ (m : Network). Ready m w) (s .same) s) in
+    let c = course-ready budget w (subst⁻¹ (λ (m : Network). Ready m w) (s .same) s) in
     let P = ap (λ (m : Network). m .processes) (s .same) in
     record {
       end = c .end;

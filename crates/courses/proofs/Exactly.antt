@@ -31,7 +31,7 @@ use Rattle.courses.specs.Courses.{turnSteps, pickedTo, roundSteps, begin
 use Rattle.courses.specs.Ends.{NoneFull}
 use Rattle.courses.specs.Exactly.{Answers, EndsExactly}
 use Rattle.courses.proofs.Inside.{ready-steps, relieved-is, picked-there, moved-as}
-use Rattle.courses.proofs.Courses.{beginning-is, has-course, exactly}
+use Rattle.courses.proofs.Courses.{beginning-is, course-ready, exactly-ready}
 
 -- ---- settled, ceiling, spent
 same-answer : (e e′ : drive.Ended) (p g p′ g′ : ℕ) → drove e p g ≡ drove e′ p′ g′ → e ≡ e′
@@ -44,15 +44,15 @@ module _ (budget : ℕ) (w : World) (s : Ready (w .lane .network) w) where
   -- the course of a drive that answers so
   course-of : (e : drive.Ended) → Answers budget w e → (rounds : ℕ) × Course P (budget / P) w e rounds
   course-of e a =
-      let c = has-course budget w s in
+      let c = course-ready budget w s in
       let q = same-answer (c .end) e _ _ (a .0) (a .1) (sym (ap (λ (r : Result). r .answer) (c .drives)) ∙ a .2) in
       (c .rounds, subst (λ (x : drive.Ended). Course P (budget / P) w x (c .rounds)) q (c .course))
 
   answers-so : (e : drive.Ended) (rounds : ℕ) → Course P (budget / P) w e rounds → Answers budget w e
-  answers-so e rounds c = (P * rounds, grownIn (courseSteps P rounds) w, ap (λ (r : Result). r .answer) (exactly budget w s e rounds c))
+  answers-so e rounds c = (P * rounds, grownIn (courseSteps P rounds) w, ap (λ (r : Result). r .answer) (exactly-ready budget w s e rounds c))
 
-  pub ends-exactly : EndsExactly P budget w
-  ends-exactly =
+  pub ends-ready : EndsExactly P budget w
+  ends-ready =
       record {
         settles = (
           λ a. let c = course-of settled a .1 in record { place = c .going; within = c .last .1; before = c .on; stops = c .last .2 },
@@ -144,9 +144,9 @@ resting-by Ended c e f = refl
 
 module _ (n : Network) (w : World) (s : Ready n w) where
   -- so many rounds, of which the last had no move and a refused relief
-  pub stopped-still : (number going : ℕ) → Stops number (n .processes) (beginning (n .processes) going w)
+  pub still-ready : (number going : ℕ) → Stops number (n .processes) (beginning (n .processes) going w)
       → (p : ℕ) → p < n .processes → wasMoved (told (pickOf p (atEnd (n .processes) (suc going) w) .answer)) ≡ false
-  stopped-still number going t p h =
+  still-ready number going t p h =
       let P : ℕ = n .processes in
       let v : World = beginning P going w in
       let r : Ready n v = subst⁻¹ (Ready n) (beginning-is P going w) (ready-steps n (courseSteps P going) w s) in
@@ -154,12 +154,12 @@ module _ (n : Network) (w : World) (s : Ready n w) where
       subst⁻¹ (λ (x : World). wasMoved (told (pickOf p x .answer)) ≡ false) e (stop-still n v r number t p h)
 
   -- "settled, at rest": quiet, but for a process that would wait on a full channel
-  pub settled-quiet : (most rounds : ℕ) → Course (n .processes) most w settled rounds → NoneFull n (atEnd (n .processes) rounds w) → Quiet n (atEnd (n .processes) rounds w)
-  settled-quiet most rounds c f p h =
+  pub quiet-ready : (most rounds : ℕ) → Course (n .processes) most w settled rounds → NoneFull n (atEnd (n .processes) rounds w) → Quiet n (atEnd (n .processes) rounds w)
+  quiet-ready most rounds c f p h =
       let P : ℕ = n .processes in
       let x : World = atEnd P rounds w in
       let r : Ready n x = ready-steps n (courseSteps P rounds) w s in
-      let e = subst⁻¹ (λ (k : ℕ). wasMoved (told (pickOf p (atEnd P k w) .answer)) ≡ false) (c .last .0) (stopped-still 13 (c .going) (c .last .2) p h) in
+      let e = subst⁻¹ (λ (k : ℕ). wasMoved (told (pickOf p (atEnd P k w) .answer)) ≡ false) (c .last .0) (still-ready 13 (c .going) (c .last .2) p h) in
       let q = picked-there n x p r h in
       subst⁻¹ (λ (y : Called). isResting (y .answer) ≡ true) q
       (resting-by (stepFor p x .outcome) _ (subst (λ (y : Called). wasMoved (told (y .answer)) ≡ false) q e)

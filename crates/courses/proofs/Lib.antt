@@ -5,6 +5,7 @@ pub mod Courses
 pub mod Exactly
 pub mod Ends
 pub mod Always
+pub mod Whole
 pub mod Bare
 pub mod Witness
 pub mod Clock

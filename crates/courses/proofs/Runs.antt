@@ -36,9 +36,9 @@ module _ (n : Network) where
       makes-both (byteStep b ∷ []) (byteSteps bs) r (byteRun b r) (bytesRun bs (byteRun b r)) m (makes-bytes bs (byteRun b r) t (λ k l. h (suc k) (omega arith)))
 
 -- a lane that is sound, with its cells, and bytes that name its processes
-pub run-is : (n : Network) (bytes : List ℕ) (w : World) → Ready n w → someUnnamed bytes w ≡ false → RunIs bytes w
+pub run-ready : (n : Network) (bytes : List ℕ) (w : World) → Ready n w → someUnnamed bytes w ≡ false → RunIs bytes w
 unfolding runOf
-run-is n bytes w s e =
+run-ready n bytes w s e =
     let m = makes-bytes n bytes (begun w) s (λ k l z. rw (ap (λ (x : Network). x .processes) (sym (s .same))) (all-named bytes w e k l z)) in
     let a : bytesRun bytes (begun w) .moved ≡ movedIn (byteSteps bytes) w = omega (arith, m .moved) in
     let b : bytesRun bytes (begun w) .grown ≡ grownIn (byteSteps bytes) w = omega (arith, m .grown) in

@@ -36,9 +36,8 @@ use Rattle.kahn_witnesses.proofs.Tested.{read-by}
 use Rattle.courses.specs.Exactly.{StopsAt, AllWentOn}
 use Rattle.courses.specs.Courses.{RunIs, courseSteps}
 use Rattle.courses.specs.Ends.{Driven}
-use Rattle.courses.proofs.Exactly.{ends-exactly}
 use Rattle.courses.proofs.Inside.{ready-steps, picked-there}
-use Rattle.courses.proofs.Runs.{run-is}
+use Rattle.courses.proofs.Whole.{not-refused, run-is, ends-exactly}
 use Rattle.courses.proofs.Ends.{then-drive}
 use Rattle.courses.proofs.Bare.{bareRounds, drive-bare}
 
@@ -151,7 +150,7 @@ made =
 -- a run with a relief in it: picks until both wait in the ring, the relief, and on
 runs : RunIs (0 ∷ 0 ∷ 0 ∷ 1 ∷ 1 ∷ 1 ∷ 255 ∷ 0 ∷ 1 ∷ []) start
 unfolding freshOf inTurn
-runs = run-is pair (0 ∷ 0 ∷ 0 ∷ 1 ∷ 1 ∷ 1 ∷ 255 ∷ 0 ∷ 1 ∷ []) start ready refl
+runs = run-is (0 ∷ 0 ∷ 0 ∷ 1 ∷ 1 ∷ 1 ∷ 255 ∷ 0 ∷ 1 ∷ []) start (not-refused pair start ready) refl
 
 -- ---- the same two, each at its second sending, on channels that have grown to 256 and are full
 abbrev brim : World
@@ -186,11 +185,11 @@ two-rounds = ap (λ (x : Result). x .answer) (drive-bare pair 4 start ready)
 -- each of the three ends, as its course tells it
 settles : StopsAt 13 2 20 start
 unfolding freshOf
-settles = ends-exactly 40 start ready .settles .0 (16, 1, answers)
+settles = ends-exactly 40 start (not-refused pair start ready) .settles .0 (16, 1, answers)
 
 reaches : StopsAt 14 2 20 brim
-reaches = ends-exactly 40 brim brim-ready .ceilings .0 (2, 0, brim-answers)
+reaches = ends-exactly 40 brim (not-refused pair brim brim-ready) .ceilings .0 (2, 0, brim-answers)
 
 spends : AllWentOn 2 2 start
 unfolding freshOf
-spends = ends-exactly 4 start ready .spends .0 (4, 1, two-rounds)
+spends = ends-exactly 4 start (not-refused pair start ready) .spends .0 (4, 1, two-rounds)

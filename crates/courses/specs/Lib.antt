@@ -1,3 +1,4 @@
 pub mod Courses
 pub mod Exactly
 pub mod Ends
+pub mod Theorem

@@ -1,7 +1,7 @@
 -- Document 01, "Driver": "With a number of picks: while at least P are left, pick 0 to P−1 in turn. .. Refusal 13 ends it as settled, 14 as ceiling;
 -- fewer than P left ends it as spent. It answers picks and enlargements made." Document 02, 5: "It shall try relief once after every round, moves or
 -- not. It ends as settled exactly after a round with no move and refusal 13, and as ceiling exactly after a round with no move and refusal 14."
--- (The "exactly" is `ends-exactly` of courses/proofs/Exactly.antt.)
+-- (The "exactly" is `ends-exactly` of courses/proofs/Whole.antt.)
 -- Assumes nothing.
 use mathlib.Core.Bool.{cond}
 use Prim.Native.Nat.{ℕ, zero, suc, _+_, _*_, _/_}

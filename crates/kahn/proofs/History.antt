@@ -1,4 +1,5 @@
--- The history of a list of steps: the events that its calls stand for, a relief that nobody called being none. A lane and its cells stay related to it; it makes as many moves as picks moved, and sends what the steps sent.
+-- The history of a list of steps: the events that its calls stand for, a relief that nobody called being none. A lane and its cells stay related to
+-- it; it makes as many moves as picks moved, and sends what the steps sent.
 -- Assumes nothing.
 use mathlib.Core.Path.{_≡_, refl, sym, ap, _∙_, subst}
 use mathlib.Core.Bool.{true}

@@ -17,8 +17,8 @@ pub fn count_by(enlarged: u64, accepted: u64) -> u64
     accepted + enlarged
 }
 
-// The relief of a sound lane with these arrays, with a ring buffer of its own, which has room for any ring. Public for the run, the
-// driver and the bench, which have tested once that the lane is sound.
+// The relief of a sound lane with these arrays, with a ring buffer of its own, which has room for any ring. Public for the driver and the
+// bench, which have tested once that the lane is sound.
 pub fn relieve_in(
     used: usize,
     code: &[u8; 4064],
@@ -66,7 +66,7 @@ fn gained(answer: ReliefAnswer) -> u64
 }
 
 // The same, where only the number of channels that it enlarged is asked for, one or none. Where no process waits for room on a channel to a process,
-// which costs less to see, nothing is searched for. Public for the run, and for the relief after each round of a drive.
+// which costs less to see, nothing is searched for. Public for the run, and for the rounds of a drive.
 pub fn ease_in(
     used: usize,
     code: &[u8; 4064],

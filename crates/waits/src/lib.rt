@@ -184,8 +184,8 @@ fn wants_room_at(
     wait.points != 255
 }
 
-// Whether some process of a sound lane does: where none does, no ring can be relieved, and none is searched for. Public for the relief after each
-// round of a drive, whose callers have shown that the lane is sound.
+// Whether some process of a sound lane does: where none does, no ring can be relieved, and none is searched for. Public for the relief inside a run or
+// a drive (`schedule`), whose callers have shown that the lane is sound.
 pub fn some_wants_room(
     used: usize,
     code: &[u8; 4064],
