@@ -28,7 +28,7 @@ returns : tie.Need-returns
 returns c = rw (c .driven .ensures, c .before .if1 .taken) (none-made (c .before .before .pre .0) (c .before .before .args .accepted))
 
 array-share-prefix-order : tie.Need-array-share-prefix-order
-array-share-prefix-order c = few-used (c .before .pre .0) (c .before .args .accepted)
+array-share-prefix-order c = omega (arith, few-used (c .before .pre .0) (c .before .args .accepted))
 
 slice-aggregate-rounds-in : tie.Need-slice-aggregate-rounds-in
 slice-aggregate-rounds-in c = simp length-take (omega (arith, few-used (c .before .before .pre .0) (c .before .before .args .accepted)))
