@@ -21,7 +21,7 @@ use Rattle.relief.specs.Relief.{Told, enlarged, refused}
 use Rattle.schedule.specs.Running.{Running, running, begun, picks, reliefIn, hasGrown, relieves}
 use Rattle.schedule.proofs.Ready.{Ready, ready-all, ready-relieves}
 use Rattle.schedule.proofs.Through.{through, through-is}
-use Rattle.lent_rounds.specs.Loops.{roundOf, idle, Course, course, pickRounds}
+use Rattle.lent_rounds.specs.Loops.{roundOf, idle, Series, series, pickRounds}
 use Rattle.drives.specs.declared.Next.{Next}
 use Rattle.drives.specs.Drive as drive
 use Rattle.drives.specs.Drive.{turns, round, byRelief, nextAfter, leftAfter, Drive, driven, rounds, drove, result, done}
@@ -58,7 +58,7 @@ onward (drive.ends e) k n r = driven e n r
 onward drive.goes k n r = rounds k n r
 
 -- the rule after rounds of which n were made
-abbrev pub ruled : Course → ℕ → Drive
+abbrev pub ruled : Series → ℕ → Drive
 ruled q n = onward (nextAfter (q .last)) (q .left) n (leftAfter (q .last))
 
 round-more : (k n : ℕ) (r : Running) → rounds (suc k) n r ≡ onward (nextAfter (round r)) k (n + 1) (leftAfter (round r))
@@ -89,12 +89,12 @@ idle-ends true (refused k) e q = at (eqb k 14) q
 idle-ends false a e q = true≢false (sym e)
 
 -- ---- how rounds end: no more may follow, or the last one was idle
-course-ends : (j : ℕ) (ps : List ℕ) (r : Running) → (pickRounds j ps r .left ≤ j) × ((pickRounds j ps r .left ≡ 0) ⊎ (idle (pickRounds j ps r .last) ≡ true))
-course-ends zero ps r = (omega arith, inl refl)
-course-ends (suc j) ps r = by (idle (roundOf ps r)) _ refl (course-ends j ps (relieves (roundOf ps r)))
+series-ends : (j : ℕ) (ps : List ℕ) (r : Running) → (pickRounds j ps r .left ≤ j) × ((pickRounds j ps r .left ≡ 0) ⊎ (idle (pickRounds j ps r .last) ≡ true))
+series-ends zero ps r = (omega arith, inl refl)
+series-ends (suc j) ps r = by (idle (roundOf ps r)) _ refl (series-ends j ps (relieves (roundOf ps r)))
   where
-    by : (b : Bool) (q : Course) → idle (roundOf ps r) ≡ b → (q .left ≤ j) × ((q .left ≡ 0) ⊎ (idle (q .last) ≡ true))
-        → (cond b (course (roundOf ps r) (suc j)) q .left ≤ suc j) × ((cond b (course (roundOf ps r) (suc j)) q .left ≡ 0) ⊎ (idle (cond b (course (roundOf ps r) (suc j)) q .last) ≡ true))
+    by : (b : Bool) (q : Series) → idle (roundOf ps r) ≡ b → (q .left ≤ j) × ((q .left ≡ 0) ⊎ (idle (q .last) ≡ true))
+        → (cond b (series (roundOf ps r) (suc j)) q .left ≤ suc j) × ((cond b (series (roundOf ps r) (suc j)) q .left ≡ 0) ⊎ (idle (cond b (series (roundOf ps r) (suc j)) q .last) ≡ true))
     by true q e t = (omega arith, inr e)
     by false q e t = (omega (arith, t .0), t .1)
 
@@ -116,7 +116,7 @@ module _ (P : ℕ) (n : Network) (high : P ≤ 16) (same : P ≡ n .processes) w
   ready-round r s = ready-all n (take P order) (unpicked (r .world)) round-low s
 
   -- one round, of which k may follow
-  one-round : (k made : ℕ) (r : Running) → Ready n (r .world) → rounds (suc k) made r ≡ ruled (course (roundOf (take P order) r) k) (made + 1)
+  one-round : (k made : ℕ) (r : Running) → Ready n (r .world) → rounds (suc k) made r ≡ ruled (series (roundOf (take P order) r) k) (made + 1)
   one-round k made r s = round-more k made r ∙ ap (λ (x : Running). onward (nextAfter x) k (made + 1) (leftAfter x)) (round-is r s)
 
   -- suc j rounds at most are j at most after a first one
@@ -124,16 +124,16 @@ module _ (P : ℕ) (n : Network) (high : P ≤ 16) (same : P ≡ n .processes) w
       → rounds (suc j) made r ≡ ruled (pickRounds j (take P order) r) (made + (suc j - pickRounds j (take P order) r .left))
   rounds-are zero made r s = one-round 0 made r s
   rounds-are (suc j) made r s =
-      by (idle x) _ refl (rounds-are j (made + 1) (relieves x) (ready-relieves n x (ready-round r s))) (course-ends j (take P order) (relieves x) .0)
+      by (idle x) _ refl (rounds-are j (made + 1) (relieves x) (ready-relieves n x (ready-round r s))) (series-ends j (take P order) (relieves x) .0)
     where
       x : Running
       x = roundOf (take P order) r
 
-      by : (b : Bool) (q : Course) → idle x ≡ b
+      by : (b : Bool) (q : Series) → idle x ≡ b
           → rounds (suc j) (made + 1) (relieves x) ≡ ruled q (made + 1 + (suc j - q .left))
           → q .left ≤ j
-          → rounds (suc (suc j)) made r ≡ ruled (cond b (course x (suc j)) q) (made + (suc (suc j) - cond b (course x (suc j)) q .left))
-      by true q b e l = one-round (suc j) made r s ∙ ap (ruled (course x (suc j))) (omega arith)
+          → rounds (suc (suc j)) made r ≡ ruled (cond b (series x (suc j)) q) (made + (suc (suc j) - cond b (series x (suc j)) q .left))
+      by true q b e l = one-round (suc j) made r s ∙ ap (ruled (series x (suc j))) (omega arith)
       by false q b e l =
           one-round (suc j) made r s
           ∙ ap (λ (y : drive.Next). onward y (suc j) (made + 1) (leftAfter x)) (busy-goes (eqb (x .moved) 0) (reliefIn (x .world)) b)
@@ -142,9 +142,9 @@ module _ (P : ℕ) (n : Network) (high : P ≤ 16) (same : P ≡ n .processes) w
 
   -- ---- a drive of some rounds
   module _ (j : ℕ) {w : World} (s : Ready n w) {l : Lane} {cells : List ℤ} {moved grown left : ℕ}
-      (e : pickRounds j (take P order) (begun w) ≡ course (running (world l cells) moved grown) left) where
+      (e : pickRounds j (take P order) (begun w) ≡ series (running (world l cells) moved grown) left) where
     ended : (left ≡ 0) ⊎ (idle (running (world l cells) moved grown) ≡ true)
-    ended = subst (λ (q : Course). (q .left ≡ 0) ⊎ (idle (q .last) ≡ true)) e (course-ends j (take P order) (begun w) .1)
+    ended = subst (λ (q : Series). (q .left ≡ 0) ⊎ (idle (q .last) ≡ true)) e (series-ends j (take P order) (begun w) .1)
 
     -- where it would go on, no round is left
     ends-by : (x : drive.Next) → x ≡ nextAfter (running (world l cells) moved grown) → (k : ℕ) (v : Running) → onward x left k v ≡ driven (endBy x) k v
@@ -161,8 +161,8 @@ module _ (P : ℕ) (n : Network) (high : P ≤ 16) (same : P ≡ n .processes) w
         sym
         (ap (done P)
         (rounds-are j 0 (begun w) s
-        ∙ ap (λ (q : Course). ruled q (0 + (suc j - q .left))) e
-        ∙ ap (ruled (course x left)) m
+        ∙ ap (λ (q : Series). ruled q (0 + (suc j - q .left))) e
+        ∙ ap (ruled (series x left)) m
         ∙ ap (λ (y : drive.Next). onward y left k (leftAfter x)) (sym (r .follows))
         ∙ ends-by (nextOf next) (r .follows) k (leftAfter x)
         ∙ ap (driven (endBy (nextOf next)) k) v))

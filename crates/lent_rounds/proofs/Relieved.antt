@@ -24,7 +24,7 @@ use Rattle.schedule.specs.Running.{Running, running, begun, reliefIn, hasGrown,
 use Rattle.schedule.specs.Lent.{countedBy, EasedBy}
 use Rattle.schedule.proofs.Ready.{Ready, ready-all, ready-relief}
 use Rattle.schedule.proofs.Lent.{withCapacity, seen, shows, relievable, counted-more}
-use Rattle.lent_rounds.specs.Loops.{Named, Picks, Round, roundOf, idle, Course, course, pickRounds, Rounding, Turns}
+use Rattle.lent_rounds.specs.Loops.{Named, Picks, Round, roundOf, idle, Series, series, pickRounds, Rounding, Turns}
 
 -- ---- the rounds, one at a time
 -- the moves of the round before are not asked
@@ -33,7 +33,7 @@ moves-over zero ps w moved grown = refl
 moves-over (suc k) ps w moved grown = refl
 
 -- an idle round is followed by none
-idle-round : (left : ℕ) (ps : List ℕ) (r : Running) → idle (roundOf ps r) ≡ true → pickRounds left ps r ≡ course (roundOf ps r) left
+idle-round : (left : ℕ) (ps : List ℕ) (r : Running) → idle (roundOf ps r) ≡ true → pickRounds left ps r ≡ series (roundOf ps r) left
 idle-round zero ps r e = refl
 idle-round (suc left) ps r e = rw e
 
@@ -109,7 +109,7 @@ module _ {again : ℕ} {picks : List ℕ} {used : ℕ} {f : Fixed} {t₀ : Parts
           rw (← c .there) (ready-all n picks (unpicked (world (laneOf n count t) cells)) named ready)
 
       -- the rounds from the start, by what they come to from here
-      ends-so : {q : Course} → pickRounds left picks begins ≡ q → pickRounds again picks (begun (world (laneOf n accepted t₀) cells₀)) ≡ q
+      ends-so : {q : Series} → pickRounds left picks begins ≡ q → pickRounds again picks (begun (world (laneOf n accepted t₀) cells₀)) ≡ q
       ends-so e = sym (s .leads n accepted lent sound named all .1) ∙ e
 
     -- no round is left
@@ -121,7 +121,7 @@ module _ {again : ℕ} {picks : List ℕ} {used : ℕ} {f : Fixed} {t₀ : Parts
           few = s .few;
           leaves =
               λ n accepted lent sound named all. (
-                ends-so n accepted lent sound named all (rw z (ap (λ (r : Running). course r 0) (round-is n accepted lent sound named all))),
+                ends-so n accepted lent sound named all (rw z (ap (λ (r : Running). series r 0) (round-is n accepted lent sound named all))),
                 ready-then n accepted lent sound named all .sound,
               );
         }
@@ -188,8 +188,8 @@ module _ {again : ℕ} {picks : List ℕ} {used : ℕ} {f : Fixed} {t₀ : Parts
                 let same : laneOf n (countedBy enlarged accepted) t″ ≡ l = (rw none at (q .1)) ∙ still in (
                   ends-so n accepted lent sound named all
                       (idle-round left picks (begins n accepted lent sound named all) i
-                      ∙ ap (λ (r : Running). course r left) (round-is n accepted lent sound named all)
-                      ∙ ap (λ (x : Lane). course (running (world x cells′) moved enlarged) left) (sym same)),
+                      ∙ ap (λ (r : Running). series r left) (round-is n accepted lent sound named all)
+                      ∙ ap (λ (x : Lane). series (running (world x cells′) moved enlarged) left) (sym same)),
                   rw same (ready-then n accepted lent sound named all .sound),
                 );
           }

@@ -17,7 +17,7 @@ use Rattle.lane.specs.Pick.{stepFor, pickIn, hasMoved, pickNext}
 use Rattle.lane_parts.specs.Parts.{laneOf, Parts, Full}
 use Rattle.lane_parts.proofs.Lanes.{sound-counted, fixedOf, lent-of}
 use Rattle.schedule.specs.Lent.{countedBy}
-use Rattle.lent_rounds.specs.Loops.{Named, Course, Rounding, Turns}
+use Rattle.lent_rounds.specs.Loops.{Named, Series, Rounding, Turns}
 
 named : (p : ℕ) (n : Network) → p < n .processes → Named (p ∷ []) n
 named p n there k h = let e : k ≡ 0 = omega arith in rw e there
@@ -51,8 +51,8 @@ module _ {l : Lane} {p : ℕ} (sound : soundOf l ≡ true) (there : p < l .netwo
       let none : enlarged ≡ 0 = omega (arith, d .few) in
       let q = d .leaves (l .network) (l .accepted) (lent-of (l .network)) (rw same sound) (named p (l .network) there) refl .0 in
       let w : world (laneOf (l .network) (l .accepted) t) cells ≡ world l cells = rw same in
-      let there : pickIn p (world (laneOf (l .network) (l .accepted) t) cells) ≡ world (laneOf (l .network) (countedBy enlarged (l .accepted)) t′) cells′ = ap (λ (x : Course). x .last .world) q in
-      let moves = ap (λ (x : Course). x .last .moved) q in (
+      let there : pickIn p (world (laneOf (l .network) (l .accepted) t) cells) ≡ world (laneOf (l .network) (countedBy enlarged (l .accepted)) t′) cells′ = ap (λ (x : Series). x .last .world) q in
+      let moves = ap (λ (x : Series). x .last .moved) q in (
         sym (rw none at there) ∙ ap (pickIn p) w,
         gained (hasMoved (stepFor p (world l cells) .outcome)) (sym moves ∙ ap (λ (v : World). cond (hasMoved (stepFor p v .outcome)) 1 0) w),
       )

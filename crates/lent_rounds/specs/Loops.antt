@@ -51,19 +51,19 @@ roundOf picks r = running (pickAll picks (unpicked (r .world)) .world) (pickAll 
 abbrev pub idle : Running → Bool
 idle r = eqb (r .moved) 0 && not (hasGrown (reliefIn (r .world)))
 
--- what the last round left, before the relief after it, and how many more might have followed
-pub record Course : Type 0 where
+-- a series of rounds: what the last one left, before the relief after it, and how many more might have followed
+pub record Series : Type 0 where
   pub last : Running
   pub left : ℕ
 
-abbrev pub course : Running → ℕ → Course
-course r left = record { last = r; left = left }
+abbrev pub series : Running → ℕ → Series
+series r left = record { last = r; left = left }
 
 -- one round, and so many more at most, each after the relief of the one before it, as long as that was not idle
-abbrev pub pickRounds : ℕ → List ℕ → Running → Course
-pickRounds zero picks r = course (roundOf picks r) 0
+abbrev pub pickRounds : ℕ → List ℕ → Running → Series
+pickRounds zero picks r = series (roundOf picks r) 0
 pickRounds (suc again) picks r =
-    cond (idle (roundOf picks r)) (course (roundOf picks r) (suc again)) (pickRounds again picks (relieves (roundOf picks r)))
+    cond (idle (roundOf picks r)) (series (roundOf picks r) (suc again)) (pickRounds again picks (relieves (roundOf picks r)))
 
 -- ---- rounds on lent arrays
 -- what is asked for a round, of a lane of so many processes
@@ -78,5 +78,5 @@ pub record Turns (again : ℕ) (picks : List ℕ) (used : ℕ) (f : Fixed) (t : 
   pub few : enlarged + left ≤ again
   pub leaves :
       (n : Network) (accepted : ℕ) → Lent n f → soundOf (laneOf n accepted t) ≡ true → Named picks n → used ≡ n .processes
-      → (pickRounds again picks (begun (world (laneOf n accepted t) cells)) ≡ course (running (world (laneOf n (countedBy enlarged accepted) t′) cells′) moved enlarged) left)
+      → (pickRounds again picks (begun (world (laneOf n accepted t) cells)) ≡ series (running (world (laneOf n (countedBy enlarged accepted) t′) cells′) moved enlarged) left)
       × (soundOf (laneOf n (countedBy enlarged accepted) t′) ≡ true)

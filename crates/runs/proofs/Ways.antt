@@ -13,7 +13,7 @@ use Rattle.lane.specs.Sound.{soundOf}
 use Rattle.lane.specs.Pick.{Progress, pickAll, unpicked}
 use Rattle.lane_parts.specs.Parts.{laneOf, Parts, Full, Fixed, Lent}
 use Rattle.lane_parts.proofs.Lanes.{lane-shaped, sound-counted}
-use Rattle.lent_rounds.specs.Loops.{Course, Rounding, Turns}
+use Rattle.lent_rounds.specs.Loops.{Series, Rounding, Turns}
 use Rattle.waits.specs.Lent.{Relievable}
 use Rattle.schedule.specs.Running.{running}
 use Rattle.schedule.specs.Lent.{countedBy, Playable, EasedBy}
@@ -82,8 +82,8 @@ module _ {bytes : List ℕ} {used : ℕ} {f : Fixed} {accepted₀ : ℕ} {t₀ :
               let q = d .leaves n accepted lent (w .ready .sound) (part-named bytes i e st (n .processes) (w .named)) all .0 in
               let z : none ≡ 0 = omega (arith, d .few) in
               let g : Progress = pickAll (part bytes i e) (unpicked (world (laneOf n accepted t) cells)) in
-              let there : g .world ≡ world (laneOf n accepted t′) cells′ = rw z at (ap (λ (x : Course). x .last .world) q) in
-              let moves : g .moved ≡ gain = ap (λ (x : Course). x .last .moved) q in
+              let there : g .world ≡ world (laneOf n accepted t′) cells′ = rw z at (ap (λ (x : Series). x .last .world) q) in
+              let moves : g .moved ≡ gain = ap (λ (x : Series). x .last .moved) q in
               rw (← there, ← moves) (after-stretch w st refl);
         }
 
