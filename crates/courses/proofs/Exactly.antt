@@ -17,9 +17,9 @@ use Rattle.lane.specs.Pick.{stepFor, hasMoved}
 use Rattle.lane.specs.Calls.{Called, waitingFull, answerTo, pickOf}
 use Rattle.lane.proofs.SoundLaws.{sound-says}
 use Rattle.lane.proofs.PickLaws.{pick-waits}
-use Rattle.relief.specs.Relief.{Relief, refused, relieveOf}
-use Rattle.relief.proofs.Enlarged.{relief-cases}
-use Rattle.schedule.specs.Running.{reliefIn}
+use Rattle.relief.specs.Relief.{refused, relieveOf}
+use Rattle.schedule.specs.Running.{reliefIn, hasGrown}
+use Rattle.lent_rounds.proofs.Relieved.{ungrown}
 use Rattle.schedule.proofs.Ready.{Ready}
 use Rattle.drives.specs.Drive.{settled, ceiling, spent, Result, drove}
 use Rattle.drives.specs.Drive as drive
@@ -103,9 +103,7 @@ module _ (n : Network) (w : World) (s : Ready n w) where
 
 -- a relief that was refused changes nothing
 refused-same : (l : Lane) (k : ℕ) → relieveOf l (replicate 16 0) .answer ≡ refused k → relieveOf l (replicate 16 0) .lane ≡ l
-refused-same l k =
-    relief-cases (λ (r : Relief). r .answer ≡ refused k → r .lane ≡ l) l (replicate 16 0) (λ j e. refl)
-    (λ ring c buffer s e q. absurd (let z : _≡_ {A = ℕ} 0 1 = cc in omega arith))
+refused-same l k e = ungrown l (replicate 16 0) (ap hasGrown e)
 
 -- the round after which a drive stopped leaves the lane and cells as they were before it
 module _ (n : Network) (v : World) (s : Ready n v) (number : ℕ) (stops : Stops number (n .processes) v) where

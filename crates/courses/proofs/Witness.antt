@@ -2,7 +2,7 @@
 -- relief enlarges a channel; both end. The whole list, with its relief that nobody called, is fair and at rest.
 -- Assumes nothing.
 use mathlib.Core.Path.{_≡_, refl, sym, ap, _∙_, subst, subst⁻¹}
-use mathlib.Core.Bool.{true, false}
+use mathlib.Core.Bool.{true, false, true≢false}
 use mathlib.Core.List.{List, [], _∷_, _++_}
 use Prim.Native.Nat.{ℕ, zero, suc, _*_, _≤_, _<_}
 use native.Mathlib.Omega.{arith}
@@ -26,18 +26,18 @@ use Rattle.lane_file.specs.File.{fileOf}
 use Rattle.lane_file.proofs.RoundTrip.{Shaped}
 use Rattle.schedule.specs.Running.{begun, picks}
 use Rattle.schedule.proofs.Ready.{Ready}
-use Rattle.drives.specs.Drive.{settled, ceiling, spent, drove, Result, done, driveOf}
+use Rattle.drives.specs.Drive.{Ended, settled, ceiling, spent, drove, Result, done, driveOf}
 use Rattle.kahn.specs.Plain.{fromOutside, withoutCapacities, plainAfter}
 use Rattle.kahn.specs.Boards.{board, isResting, Fair, AllIn, Quiet, AtRest, Agrees}
 use Rattle.kahn.specs.Theorem.{ReadAs}
-use Rattle.kahn.specs.Steps.{movedIn, grownIn}
+use Rattle.kahn.specs.Steps.{after, movedIn, grownIn}
 use Rattle.kahn_witnesses.proofs.Computed.{tests, files, playing, filled, many-filled}
 use Rattle.kahn_witnesses.proofs.Tested.{read-by}
 use Rattle.courses.specs.Exactly.{StopsAt, AllWentOn}
-use Rattle.courses.specs.Courses.{RunIs, courseSteps}
-use Rattle.courses.specs.Ends.{Driven}
+use Rattle.courses.specs.Courses.{RunIs, courseSteps, Course}
+use Rattle.courses.specs.Ends.{Driven, NoneFull}
 use Rattle.courses.proofs.Inside.{ready-steps, picked-there}
-use Rattle.courses.proofs.Whole.{not-refused, run-is, ends-exactly}
+use Rattle.courses.proofs.Whole.{not-refused, run-is, ends-exactly, settled-quiet}
 use Rattle.courses.proofs.Ends.{then-drive}
 use Rattle.courses.proofs.Bare.{bareRounds, drive-bare}
 
@@ -146,6 +146,16 @@ made =
     let q : drove (driven .end) (2 * driven .rounds) (grownIn (courseSteps 2 (driven .rounds)) start) ≡ drove settled 16 1 = sym (ap (λ (x : Result). x .answer) (driven .drives)) ∙ answers in
     let a : 2 * driven .rounds ≡ 16 = cc in
     (cc, omega arith, cc)
+
+-- what `settled-quiet` asks is met there: no process of the end waits on a full channel
+none-full : NoneFull pair (after (courseSteps 2 (driven .rounds)) start)
+none-full p h c e = true≢false (sym (at-rest .quiet p h) ∙ ap isResting e)
+
+settled-met : Quiet pair (after (courseSteps 2 (driven .rounds)) start)
+unfolding freshOf
+settled-met =
+    settled-quiet 20 (driven .rounds) start (not-refused pair start ready)
+    (subst (λ (e : Ended). Course 2 20 start e (driven .rounds)) (made .0) (driven .course)) none-full
 
 -- a run with a relief in it: picks until both wait in the ring, the relief, and on
 runs : RunIs (0 ∷ 0 ∷ 0 ∷ 1 ∷ 1 ∷ 1 ∷ 255 ∷ 0 ∷ 1 ∷ []) start

@@ -18,6 +18,7 @@ use Rattle.relief.specs.Relief.{enlarged, refused, told, relieveOf}
 use Rattle.waits.specs.Lent.{Arrays}
 use Rattle.schedule.specs.Running.{running, hasGrown, relieves}
 use Rattle.schedule.specs.Lent.{Relieved}
+use Rattle.schedule.proofs.Through.{grown-on}
 use Rattle.drives.specs.declared.Next.{Next}
 use Rattle.drives.specs.declared.Next.the-variants.{Goes}
 use Rattle.drives.specs.Drive as drive
@@ -44,13 +45,9 @@ module _ (l : Lane) (moved : ℕ) where
 
 -- ---- in a drive: whatever the cells and earlier enlargements
 module _ (l : Lane) (cells : List ℤ) (moved grown : ℕ) where
-  more-grown : (t : Bool) → cond t (grown + 1) grown ≡ grown + cond t 1 0
-  more-grown true = refl
-  more-grown false = omega arith
-
   pub left-is : leftAfter (running (world l cells) moved grown) ≡ running (world (leftAfter (roundOn l moved) .world .lane) cells) moved (grown + leftAfter (roundOn l moved) .grown)
   unfolding relieves
-  left-is = ap (running (world (relieveOf l (replicate 16 0) .lane) cells) moved) (more-grown (hasGrown (relieveOf l (replicate 16 0) .answer)))
+  left-is = ap (running (world (relieveOf l (replicate 16 0) .lane) cells) moved) (grown-on (hasGrown (relieveOf l (replicate 16 0) .answer)) grown)
 
 -- ---- on lent arrays
 module _ (moved : ℕ) {used : ℕ} {v : Arrays} {r : ReliefAnswer} {capacity′ : List ℕ} (d : Relieved used v r (cond (hasGrown (told r)) 1 0) capacity′) where

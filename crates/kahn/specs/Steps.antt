@@ -24,7 +24,8 @@ calls [] = []
 calls (k ∷ ks) = call k ∷ calls ks
 
 -- ---- a relief that nobody called
--- what it counts: today a relief that enlarged is an accepted call, called or not. No proof of demand 3 looks at it.
+-- what it counts: today a relief that enlarged is an accepted call, called or not. Demand 3 asks of it only that it leaves the board and soundness as
+-- they are (`count-kept`, `count-board` of proofs/InnerRelief.antt).
 abbrev pub countUncalled : Lane → Lane
 countUncalled l = count l
 

@@ -23,6 +23,7 @@ use Rattle.relief.proofs.Enlarged.{relief-cases}
 use Rattle.schedule.specs.Running.{Running, running, begun, reliefIn, hasGrown, relieves}
 use Rattle.schedule.specs.Lent.{countedBy, EasedBy}
 use Rattle.schedule.proofs.Ready.{Ready, ready-all, ready-relief}
+use Rattle.schedule.proofs.Through.{grown-on}
 use Rattle.schedule.proofs.Lent.{withCapacity, seen, shows, relievable, counted-more}
 use Rattle.lent_rounds.specs.Loops.{Named, Picks, Round, roundOf, idle, Series, series, pickRounds, Rounding, Turns}
 
@@ -42,7 +43,7 @@ next-round zero ps r h e = absurd (h refl)
 next-round (suc left) ps r h e = let k : suc left - 1 ≡ left = omega arith in rw (e, k)
 
 -- a relief that enlarged nothing leaves the lane as it was
-ungrown : (l : Lane) (buffer : List ℕ) → hasGrown (relieveOf l buffer .answer) ≡ false → relieveOf l buffer .lane ≡ l
+pub ungrown : (l : Lane) (buffer : List ℕ) → hasGrown (relieveOf l buffer .answer) ≡ false → relieveOf l buffer .lane ≡ l
 ungrown l buffer =
     relief-cases (λ (r : Relief). hasGrown (r .answer) ≡ false → r .lane ≡ l) l buffer (λ k e. refl) (λ ring c b s e t. absurd (true≢false t))
 
@@ -159,8 +160,7 @@ module _ {again : ℕ} {picks : List ℕ} {used : ℕ} {f : Fixed} {t₀ : Parts
 
         -- in the terms of a drive
         grown-by : (b : Bool) → eased ≡ cond b 1 0 → cond b (enlarged + 1) enlarged ≡ enlarged + eased
-        grown-by true q = rw q
-        grown-by false q = omega arith
+        grown-by b q = rw q (grown-on b enlarged)
 
         relieves-is : relieves (rounded n accepted lent sound named all) ≡ running (world (laneOf n (countedBy (enlarged + eased) accepted) t″) cells′) moved (enlarged + eased)
         unfolding relieves

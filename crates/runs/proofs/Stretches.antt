@@ -20,7 +20,7 @@ use Rattle.lane.proofs.SoundLaws.{at-each}
 use Rattle.relief.specs.Relief.{Told, relieveOf}
 use Rattle.schedule.specs.Running.{Running, running, begun, picks, hasGrown, relieves}
 use Rattle.schedule.proofs.Ready.{Ready, ready-all, ready-relief}
-use Rattle.schedule.proofs.Through.{through, through-is, few-moves}
+use Rattle.schedule.proofs.Through.{through, through-is, grown-on, few-moves}
 use Rattle.runs.specs.Run.{byteRun, bytesRun, named, someUnnamed}
 use Rattle.runs.specs.Stretches.{isPick, Stretch}
 
@@ -102,10 +102,6 @@ pub record Partway (bytes : List ℕ) (n : Network) (w₀ : World) (i : ℕ) (r 
   pub moves : r .moved ≤ i
   pub grows : r .grown ≤ i
   pub rest : bytesRun (drop i bytes) r ≡ bytesRun bytes (begun w₀)
-
-grown-on : (b : Bool) (g : ℕ) → cond b (g + 1) g ≡ g + cond b 1 0
-grown-on true g = refl
-grown-on false g = omega arith
 
 few-grown : (b : Bool) (g e : ℕ) → g ≤ e → g + cond b 1 0 ≤ e + 1
 few-grown true g e h = omega arith

@@ -33,6 +33,11 @@ through-is ps w a grown =
     let e : a ≡ a + 0 = omega arith in
     ap (λ (m : ℕ). through ps (running w m grown)) e ∙ through-from ps a grown (unpicked w)
 
+-- one enlargement more, or none
+pub grown-on : (b : Bool) (g : ℕ) → cond b (g + 1) g ≡ g + cond b 1 0
+grown-on true g = refl
+grown-on false g = omega arith
+
 -- at most as many moves as picks
 few-on : (b : Bool) (m : ℕ) → cond b (m + 1) m ≤ m + 1
 few-on true m = omega arith
