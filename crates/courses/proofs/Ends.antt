@@ -28,7 +28,7 @@ use Rattle.courses.proofs.Runs.{run-ready}
 use Rattle.courses.proofs.Courses.{course-ready}
 
 -- ---- which steps are inside
-inner-append : (xs ys : List Step) → Inner xs → Inner ys → Inner (xs ++ ys)
+pub inner-append : (xs ys : List Step) → Inner xs → Inner ys → Inner (xs ++ ys)
 inner-append [] ys a b = b
 inner-append (x ∷ xs) ys a b = (a .0, inner-append xs ys (a .1) b)
 
@@ -40,7 +40,7 @@ inner-bytes (b ∷ bs) = (at (eqb b 255), inner-bytes bs)
     at true = refl
     at false = refl
 
-inner-turns : (p k : ℕ) → Inner (turnSteps p k)
+pub inner-turns : (p k : ℕ) → Inner (turnSteps p k)
 inner-turns p zero = tt
 inner-turns p (suc k) = (refl, inner-turns (suc p) k)
 
@@ -111,7 +111,7 @@ module _ (f : List ℕ) (n : Network) (reads : ReadAs f n) (cells : List ℤ) (m
       let g = fair-on n input steps more (board n cells) inner fair in
       record { fair = g; holds = one-board-holds f n reads cells many input (steps ++ more) g; rests = rest-on n input steps more (board n cells) inner }
 
-  ready-board : Ready n (after steps (board n cells))
+  pub ready-board : Ready n (after steps (board n cells))
   ready-board =
       let pass = written-read f n (reads .0) (reads .1) .0 in
       let s = stands-fresh n pass cells many in

@@ -107,7 +107,7 @@ refused-same l k e = ungrown l (replicate 16 0) (ap hasGrown e)
 
 -- the round after which a drive stopped leaves the lane and cells as they were before it
 module _ (n : Network) (v : World) (s : Ready n v) (number : ℕ) (stops : Stops number (n .processes) v) where
-  stop-picks : pickedTo (n .processes) v ≡ v
+  pub stop-picks : pickedTo (n .processes) v ≡ v
   stop-picks = still-turns n v s (n .processes) 0 (omega arith) (stops .0) .0
 
   stop-relief : (w : World) → reliefIn w ≡ refused number → after (innerRelief ∷ []) w ≡ w
@@ -120,7 +120,7 @@ module _ (n : Network) (v : World) (s : Ready n v) (number : ℕ) (stops : Stops
       ∙ stop-relief (pickedTo P v) (stops .1)
       ∙ stop-picks
 
-  stop-still : (p : ℕ) → p < n .processes → Still n v s p
+  pub stop-still : (p : ℕ) → p < n .processes → Still n v s p
   stop-still p h = still-turns n v s (n .processes) 0 (omega arith) (stops .0) .1 p (omega arith) (omega arith)
 
 -- ---- the end of a drive that stopped
@@ -141,15 +141,19 @@ resting-by WaitFull c e f = absurd (f c refl)
 resting-by Ended c e f = refl
 
 module _ (n : Network) (w : World) (s : Ready n w) where
-  -- so many rounds, of which the last had no move and a refused relief
-  pub still-ready : (number going : ℕ) → Stops number (n .processes) (beginning (n .processes) going w)
-      → (p : ℕ) → p < n .processes → wasMoved (told (pickOf p (atEnd (n .processes) (suc going) w) .answer)) ≡ false
-  still-ready number going t p h =
-      let P : ℕ = n .processes in
-      let v : World = beginning P going w in
-      let r : Ready n v = subst⁻¹ (Ready n) (beginning-is P going w) (ready-steps n (courseSteps P going) w s) in
-      let e : atEnd P (suc going) w ≡ v = sym (beginning-is P (suc going) w) ∙ last-round P going w ∙ stop-same n v r number t in
-      subst⁻¹ (λ (x : World). wasMoved (told (pickOf p x .answer)) ≡ false) e (stop-still n v r number t p h)
+  -- so many rounds, of which the last had no move and a refused relief: it ends where that round began, and no pick moves there
+  module _ (number going : ℕ) (t : Stops number (n .processes) (beginning (n .processes) going w)) where
+    abbrev v : World
+    v = beginning (n .processes) going w
+
+    pub ready-last : Ready n v
+    ready-last = subst⁻¹ (Ready n) (beginning-is (n .processes) going w) (ready-steps n (courseSteps (n .processes) going) w s)
+
+    pub ends-there : atEnd (n .processes) (suc going) w ≡ v
+    ends-there = sym (beginning-is (n .processes) (suc going) w) ∙ last-round (n .processes) going w ∙ stop-same n v ready-last number t
+
+    pub still-ready : (p : ℕ) → p < n .processes → wasMoved (told (pickOf p (atEnd (n .processes) (suc going) w) .answer)) ≡ false
+    still-ready p h = subst⁻¹ (λ (x : World). wasMoved (told (pickOf p x .answer)) ≡ false) ends-there (stop-still n v ready-last number t p h)
 
   -- "settled, at rest": quiet, but for a process that would wait on a full channel
   pub quiet-ready : (most rounds : ℕ) → Course (n .processes) most w settled rounds → NoneFull n (atEnd (n .processes) rounds w) → Quiet n (atEnd (n .processes) rounds w)

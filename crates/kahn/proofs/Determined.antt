@@ -52,7 +52,7 @@ module _ (N : Net) where
   run-append (p ∷ σ) τ H = run-append σ τ (step N p H)
 
   -- only a process moves
-  inside : (p : ℕ) (H : State X W) {a : Act X W} → does N p H ≡ some a → p < P
+  pub inside : (p : ℕ) (H : State X W) {a : Act X W} → does N p H ≡ some a → p < P
   unfolding does act
   inside p H m = go (decLe P p)
     where
@@ -111,7 +111,7 @@ module _ (N : Net) where
         ∙ sym (step-moves N p (fill N input H) (fill-moves p H f m))
 
     -- what comes in changes nothing when all of it is there
-    fill-outside : (f : ℕ → List W → List W) (g : ℕ → Bool → Bool) (H : State X W)
+    pub fill-outside : (f : ℕ → List W → List W) (g : ℕ → Bool → Bool) (H : State X W)
         → fill N input (change N 255 (record { become = λ x. x; put = f; take = λ _ n. n; shut = g }) H) ≡ fill N input H
     unfolding fill change
     fill-outside f g H =
@@ -134,7 +134,7 @@ module _ (N : Net) where
     fed-step : (p : ℕ) {left : ℕ → List W} (H : State X W) {a : Act X W} → Fed left H → does N p H ≡ some a → Fed left (step N p H)
     fed-step p {left} H {a} f m = rw (step-moves N p H m) (fed-change p a H (insider p H m) f)
 
-    fed-feed : {left : ℕ → List W} (H : State X W) (c : ℕ) (v : W) (rest : List W) → left c ≡ v ∷ rest → Fed left H
+    pub fed-feed : {left : ℕ → List W} (H : State X W) (c : ℕ) (v : W) (rest : List W) → left c ≡ v ∷ rest → Fed left H
         → Fed (update left c rest) (change N 255 (emit c v (λ x. x)) H)
     unfolding change
     fed-feed {left} H c v rest r f =
@@ -143,7 +143,7 @@ module _ (N : Net) where
           done = λ d e. rw (eq-eqb (sender d) 255 e) (λ t. feed-open (eqb d c) (left d) rest v (λ s. ap left (eqb-true d c s) ∙ r) (f .done d e t));
         }
 
-    fed-finish : {left : ℕ → List W} (H : State X W) (c : ℕ) → left c ≡ [] → Fed left H → Fed left (change N 255 (seal c (λ x. x)) H)
+    pub fed-finish : {left : ℕ → List W} (H : State X W) (c : ℕ) → left c ≡ [] → Fed left H → Fed left (change N 255 (seal c (λ x. x)) H)
     unfolding change
     fed-finish {left} H c r f =
         record {
@@ -184,7 +184,7 @@ module _ (N : Net) where
         let t = catch-up p (fill N input H) (fill-moves p H f d) (s .0) in
         (t .0, ap (run N (t .0)) (fill-step p H f d) ∙ t .1 ∙ ap (round N) (s .1))
 
-    turn-fed : (p : ℕ) {left : ℕ → List W} (H : State X W) (o : Option (Act X W)) → does N p H ≡ o → Fed left H → Fed left (step N p H)
+    pub turn-fed : (p : ℕ) {left : ℕ → List W} (H : State X W) (o : Option (Act X W)) → does N p H ≡ o → Fed left H → Fed left (step N p H)
     turn-fed p H none e f = rw (step-waits N p H e) f
     turn-fed p H (some a) e f = fed-step p H f e
 
@@ -211,7 +211,7 @@ module _ (N : Net) where
         subst (λ k. Reached k (happens N es (happen N (finish c) H))) (omega arith)
         (later es left (happen N (finish c) H) m (l .2) (fed-finish H c (l .1) f) (λ n h. rw (fill-outside _ _ H) (r n h)))
 
-    fed-start : Fed input (empty N)
+    pub fed-start : Fed input (empty N)
     unfolding empty
     fed-start = record { fits = λ c e. refl; done = λ c e t. absurd (false≢true t) }
 
@@ -223,7 +223,7 @@ module _ (N : Net) where
     step-prefix p H c none e = rw (step-waits N p H e) (prefix-refl (H .sent c))
     step-prefix p H c (some a) e = rw (step-moves N p H e) (let m = change-more N p H a (does-grows N p H e) c in record { rest = m .extra; longer = m .longer })
 
-    run-prefix : (σ : List ℕ) (H : State X W) (c : ℕ) → Prefix (H .sent c) (run N σ H .sent c)
+    pub run-prefix : (σ : List ℕ) (H : State X W) (c : ℕ) → Prefix (H .sent c) (run N σ H .sent c)
     run-prefix [] H c = prefix-refl (H .sent c)
     run-prefix (p ∷ σ) H c = prefix-trans (step-prefix p H c (does N p H) refl) (run-prefix σ (step N p H) c)
 
@@ -236,7 +236,7 @@ module _ (N : Net) where
         prefix-trans (record { rest = m .extra; longer = m .longer }) (subst (λ (T : State X W). Prefix (fill N input H .sent c) (T .sent c)) (s .1) (run-prefix (s .0) (fill N input H) c))
 
     -- a network at rest that has had all its input is where the rounds come to rest
-    fill-full : (H : State X W) → ((c : ℕ) → sender c ≡ 255 → H .sent c ≡ input c) → ((c : ℕ) → sender c ≡ 255 → H .closed c ≡ true) → fill N input H ≡ H
+    pub fill-full : (H : State X W) → ((c : ℕ) → sender c ≡ 255 → H .sent c ≡ input c) → ((c : ℕ) → sender c ≡ 255 → H .closed c ≡ true) → fill N input H ≡ H
     unfolding fill change
     fill-full H f g =
         λ i. record {

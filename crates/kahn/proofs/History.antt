@@ -51,7 +51,7 @@ module _ (n : Network) (pass : passes n ≡ true) where
           related = same-out n pass _ H out (λ c. []) (λ c. refl) (inner-related w H out (t .related));
         }
 
-    counts-step : (s : Step) → movesOf (netOf n pass) (eventsAt s w) H ≡ movedAt s w
+    pub counts-step : (s : Step) → movesOf (netOf n pass) (eventsAt s w) H ≡ movedAt s w
     counts-step (call k) = counts-next n pass k w H out t
     counts-step innerRelief = refl
 

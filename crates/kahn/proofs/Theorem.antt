@@ -54,7 +54,7 @@ unfolding eight
 eight-null xs b h = rw (h b, h (b + 1), h (b + 2), h (b + 3), h (b + 4), h (b + 5), h (b + 6), h (b + 7))
 
 module _ (n : Network) (pass : passes n ≡ true) where
-  fresh-channel : (c : ℕ) → c < 32 → channelOf (freshOf n) c ≡ freshChannel n c
+  pub fresh-channel : (c : ℕ) → c < 32 → channelOf (freshOf n) c ≡ freshChannel n c
   unfolding freshOf
   fresh-channel c l = table-at (freshChannel n) 32 c noChannel l
 
@@ -124,7 +124,7 @@ module _ (n : Network) (pass : passes n ≡ true) where
   unfolding happen change
   finished t es H c e o = rw e (happens-closed (netOf n pass) es _ c (rw (eq-eqb (senderIn n c) 255 o, eq-eqb c c refl)))
 
-  was-closed : (before later : List Step) (w : World) (H : State Process ℤ) (c : ℕ) → senderIn n c ≡ 255 → closesBy (close c) (after before w) c ≡ true
+  pub was-closed : (before later : List Step) (w : World) (H : State Process ℤ) (c : ℕ) → senderIn n c ≡ 255 → closesBy (close c) (after before w) c ≡ true
       → happens (netOf n pass) (history (before ++ (call (close c) ∷ later)) w) H .closed c ≡ true
   was-closed [] later w H c o e = finished (wasAccepted (apply (close c) w .reply)) (history later (apply (close c) w .world)) H c (closed-by c _ e) o
   was-closed (s ∷ before) later w H c o e =

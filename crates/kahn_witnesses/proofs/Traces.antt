@@ -23,7 +23,7 @@ use Rattle.relief.specs.Relief.{Relief, foundIn, settled, relieveOf}
 use Rattle.kahn.specs.Plain.{fromOutside}
 use Rattle.kahn.specs.Calls.{Call, pick, feed, close, take, relieve, Reply, relieved, Made, made, apply, wasMoved, wasAccepted, one, standsAtSend, closesBy, countOne}
 use Rattle.kahn.specs.Steps.{Step, call, innerRelief, calls, afterStep, fedAt, after, fed, taken, sent, movedIn}
-use Rattle.kahn.specs.Boards.{Prefix, Fair, isResting, WasClosed, AtRest}
+use Rattle.kahn.specs.Boards.{Prefix, Fair, isResting, WasClosed, AllIn, AtRest}
 use Rattle.kahn.proofs.Events.{givenOf, apply-kept}
 
 -- ---- one call
@@ -276,13 +276,17 @@ module _ (ks : List Call) (w : World) (f : Fit w) where
     abbrev pub Rests : ℕ → Type 0
     Rests p = isResting (pickBare p (computed 0 ks w .left) .answer) ≡ true
 
+    pub all-in-by : ((c : ℕ) → fromOutside n c ≡ true → WholeOn c) → AllIn n input (calls ks) w
+    all-in-by h =
+        record {
+          fedAll = λ c o. fed-is c ∙ h c o .0;
+          closedAll = λ c o. was-closed (calls ks) w c (ap (λ (s : Seen). s .shut) (seen c) ∙ h c o .1);
+        }
+
     pub rest-by : ((c : ℕ) → fromOutside n c ≡ true → WholeOn c) → ((p : ℕ) → p < n .processes → Rests p) → AtRest n input (calls ks) w
     rest-by h q =
         record {
-          allIn = record {
-            fedAll = λ c o. fed-is c ∙ h c o .0;
-            closedAll = λ c o. was-closed (calls ks) w c (ap (λ (s : Seen). s .shut) (seen c) ∙ h c o .1);
-          };
+          allIn = all-in-by h;
           quiet = λ p l.
               ap (λ (m : lane.Called). isResting (m .answer)) (pick-bare p (after (calls ks) w) fit-left)
               ∙ ap (λ (x : World). isResting (pickBare p x .answer)) left-is

@@ -21,7 +21,7 @@ use Rattle.relief.specs.Relief.{refused, relief, foundIn, relieveOf}
 use Rattle.relief.proofs.Relieving.{pointing-stays, lane-none}
 
 -- a process on a ring leads to processes alone
-ring-inside : (f : ℕ → ℕ) (P : ℕ) → Stays f P → (p : ℕ) → OnRing f P p → (k : ℕ) → iter f k p < P
+pub ring-inside : (f : ℕ → ℕ) (P : ℕ) → Stays f P → (p : ℕ) → OnRing f P p → (k : ℕ) → iter f k p < P
 ring-inside f P stays p ring k =
     let r = on-ring f P stays p ring in
     let j = ring-reach f P p (ringLength f P p) r k in

@@ -40,7 +40,7 @@ module _ (f : ℕ → ℕ) where
       }
 
   module _ (p : ℕ) (ring : List ℕ) (s : IsRing f p ring) where
-    ring-at : (i : ℕ) → i < length ring → getD ring i 0 ≡ iter f i p
+    pub ring-at : (i : ℕ) → i < length ring → getD ring i 0 ≡ iter f i p
     unfolding iter
     ring-at zero h = s .begins
     ring-at (suc i) h = ap (λ (m : ℕ). getD ring m 0) (sym (add-one i)) ∙ s .follows i (omega arith) ∙ ap f (ring-at i (omega arith))

@@ -1,0 +1,1 @@
+// Definitions and proofs alone: how many picks a lane can need.
