@@ -88,6 +88,10 @@ module _ (N : Net) where
       pub fits : (c : ℕ) → sender c ≡ 255 → H .sent c ++ left c ≡ input c
       pub done : (c : ℕ) → sender c ≡ 255 → H .closed c ≡ true → left c ≡ []
 
+    -- on a channel that is closed all of it has come
+    pub fed-all : {left : ℕ → List W} (H : State X W) → Fed left H → (c : ℕ) → sender c ≡ 255 → H .closed c ≡ true → H .sent c ≡ input c
+    fed-all H f c o e = sym (append-nil (H .sent c)) ∙ ap (λ (l : List W). H .sent c ++ l) (sym (f .done c o e)) ∙ f .fits c o
+
     fill-more : {left : ℕ → List W} (H : State X W) → Fed left H → (c : ℕ) → More (H .sent c) (H .closed c) (fill N input H .sent c) (fill N input H .closed c)
     unfolding fill change
     fill-more {left} H f c =

@@ -4,7 +4,7 @@ use mathlib.Core.Path.{_≡_, refl, sym, ap, _∙_, subst}
 use mathlib.Core.Logic.{_≢_}
 use mathlib.Core.Bool.{Bool, true, false, cond, _&&_, false≢true}
 use mathlib.Core.Option.{none}
-use mathlib.Core.List.{List, [], _∷_, _++_, append-nil}
+use mathlib.Core.List.{List, [], _∷_, _++_}
 use Prim.Native.Nat.{ℕ, _+_, _*_, _≤_, _<_}
 use native.Mathlib.Decide.{ℕ-discrete, decLt}
 use native.Mathlib.Omega.{arith}
@@ -31,10 +31,10 @@ use Rattle.kahn.specs.Plain.{Plain, withoutCapacities, newProcess, plain
 use Rattle.kahn.specs.Calls.{Call, close, apply, told, wasAccepted, one, given, takenBy, closesBy}
 use Rattle.kahn.specs.Calls as calls
 use Rattle.kahn.specs.Steps.{Step, call, innerRelief, afterStep, takenAt, after, taken, sent, movedIn}
-use Rattle.kahn.specs.Boards.{Prefix, board, Fair, isResting, AtRest, SendsPrefix, Agrees, AgreeWith}
+use Rattle.kahn.specs.Boards.{Prefix, board, Fair, isResting, AllIn, AtRest, SendsPrefix, Agrees, AgreeWith}
 use Rattle.kahn.proofs.Unbounded.{State, Event, finish, Moves, change, does, happen, happens, empty, movesOf, Legal}
 use Rattle.kahn.proofs.Diamond.{none-some}
-use Rattle.kahn.proofs.Determined.{determined, reached, rests, happens-closed}
+use Rattle.kahn.proofs.Determined.{fed-all, determined, reached, rests, happens-closed}
 use Rattle.kahn.proofs.Conds.{cond-same}
 use Rattle.kahn.proofs.Relation.{Related}
 use Rattle.kahn.proofs.Keeps.{Kept}
@@ -193,17 +193,18 @@ module _ (n : Network) (pass : passes n ≡ true) where
               };
         }
 
-    module _ (rest : AtRest n input ss (board n cells)) where
-      closed-all : (c : ℕ) → senderIn n c ≡ 255 → H .closed c ≡ true
-      closed-all c o =
-          let k = rest .allIn .closedAll c (from-outside n c o) in
-          ap (λ (l : List Step). happens (netOf n pass) (history l (board n cells)) (empty (netOf n pass)) .closed c) (k .2)
-          ∙ was-closed (k .0) (k .1) (board n cells) (empty (netOf n pass)) c o (k .3)
+    pub closed-all : AllIn n input ss (board n cells) → (c : ℕ) → senderIn n c ≡ 255 → H .closed c ≡ true
+    closed-all all c o =
+        let k = all .closedAll c (from-outside n c o) in
+        ap (λ (l : List Step). happens (netOf n pass) (history l (board n cells)) (empty (netOf n pass)) .closed c) (k .2)
+        ∙ was-closed (k .0) (k .1) (board n cells) (empty (netOf n pass)) c o (k .3)
 
-      fed-all : (c : ℕ) → senderIn n c ≡ 255 → H .sent c ≡ input c
-      fed-all c o =
-          let f = reached (netOf n pass) input (history ss (board n cells)) legal .fed in
-          sym (append-nil (H .sent c)) ∙ ap (λ (l : List ℤ). H .sent c ++ l) (sym (f .done c o (closed-all c o))) ∙ f .fits c o
+    module _ (rest : AtRest n input ss (board n cells)) where
+      shut : (c : ℕ) → senderIn n c ≡ 255 → H .closed c ≡ true
+      shut = closed-all (rest .allIn)
+
+      sent-all : (c : ℕ) → senderIn n c ≡ 255 → H .sent c ≡ input c
+      sent-all c o = fed-all (netOf n pass) input H (reached (netOf n pass) input (history ss (board n cells)) legal .fed) c o (shut c o)
 
       still : (p : ℕ) → p < n .processes → Moves (netOf n pass) p H → ⊥
       still p l m =
@@ -213,7 +214,7 @@ module _ (n : Network) (pass : passes n ≡ true) where
 
       at-rest : (r : ℕ) → movedIn ss (board n cells) ≤ r → H ≡ stateOf (plainAfter (withoutCapacities n) input r)
       at-rest r h =
-          rests (netOf n pass) input (history ss (board n cells)) legal fed-all closed-all still r (enough r h) ∙ sym (plain-is n pass input r)
+          rests (netOf n pass) input (history ss (board n cells)) legal sent-all shut still r (enough r h) ∙ sym (plain-is n pass input r)
 
       -- (b)
       pub agrees : (r : ℕ) → movedIn ss (board n cells) ≤ r → Agrees n input ss (board n cells) (plainAfter (withoutCapacities n) input r)

@@ -162,7 +162,7 @@ module _ (n : Network) (pass : passes n ≡ true) where
     puts (halt x) o = puts-end x
 
   -- an end that is not 254 is that of a channel which is there
-  is-there : (t : Bool) (e : ℕ) → cond t e 254 ≢ 254 → t ≡ true
+  pub is-there : (t : Bool) (e : ℕ) → cond t e 254 ≢ 254 → t ≡ true
   is-there true e h = refl
   is-there false e h = absurd (h refl)
 

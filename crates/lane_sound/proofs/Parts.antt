@@ -33,14 +33,14 @@ unfolding channelSound
 channel-parts s r h = regroup (leb (h .held) (h .capacity) && between 1 (h .capacity) 256 && leb (h .oldest) 255) (not s || h .closed) (not r || eqb (h .held) 0)
 
 -- ---- the ends of a channel whose record is right
-ends-right : (sender receiver capacity processes : ℕ) → endsRight sender receiver capacity processes ≡ true → (endRight sender processes ≡ true) × (endRight receiver processes ≡ true)
+pub ends-right : (sender receiver capacity processes : ℕ) → endsRight sender receiver capacity processes ≡ true → (endRight sender processes ≡ true) × (endRight receiver processes ≡ true)
 unfolding endsRight
 ends-right sender receiver capacity processes e =
     let ends = endRight sender processes && endRight receiver processes in
     let apart = not (eqb sender outside && eqb receiver outside) in
     both-true _ _ (both-true ends apart (both-true (ends && apart) (between 1 capacity 256) e .0) .0)
 
-either : (a b : Bool) → (a || b) ≡ true → (a ≡ true) ⊎ (b ≡ true)
+pub either : (a b : Bool) → (a || b) ≡ true → (a ≡ true) ⊎ (b ≡ true)
 either true b e = inl e
 either false b e = inr e
 

@@ -23,9 +23,8 @@ use Rattle.kahn.specs.Boards.{board, Fair, AllIn}
 use Rattle.kahn.proofs.Unbounded.{State, empty, happens}
 use Rattle.kahn.proofs.Allowed.{senderIn, hasEnded}
 use Rattle.kahn.proofs.History.{history}
-use Rattle.kahn.proofs.Lawful.{from-outside}
 use Rattle.kahn.proofs.Lists.{after-append, moved-append, grown-append}
-use Rattle.kahn.proofs.Theorem.{was-closed}
+use Rattle.kahn.proofs.Theorem.{closed-all}
 use Rattle.courses.specs.Courses.{turnSteps, pickedTo, beginning, courseSteps, Stops, Course}
 use Rattle.courses.specs.Ends.{Inner}
 use Rattle.courses.proofs.Inside.{picked-there, moved-as}
@@ -64,11 +63,8 @@ module _ (t : Task) (cells : List ℤ) (many : length cells ≡ 8192) (steps : L
       let r = reached t cells many (steps ++ more) (fair-on n input steps more (board n cells) inner fair) in
       (r .0, subst (λ (x : World). Leads more x (r .0)) (after-append steps more (board n cells)) (r .1))
 
-  closed-all : (more : List Step) → Inner more → (c : ℕ) → senderIn n c ≡ 255 → state more .closed c ≡ true
-  closed-all more inner c o =
-      let k = all-in-on n input steps more (board n cells) inner all .closedAll c (from-outside n c o) in
-      ap (λ (l : List Step). happens (net t) (history l (board n cells)) (empty (net t)) .closed c) (k .2)
-      ∙ was-closed n pass (k .0) (k .1) (board n cells) (empty (net t)) c o (k .3)
+  shut : (more : List Step) → Inner more → (c : ℕ) → senderIn n c ≡ 255 → state more .closed c ≡ true
+  shut more inner = closed-all n pass cells many input (steps ++ more) (fair-on n input steps more (board n cells) inner fair) (all-in-on n input steps more (board n cells) inner all)
 
   -- so many moves and enlargements at most
   few-moves : (more : List Step) → Inner more → movedIn steps (board n cells) + movedIn more w ≤ N
@@ -120,7 +116,7 @@ module _ (t : Task) (cells : List ℤ) (many : length cells ≡ 8192) (steps : L
 
     ended-all : (p : ℕ) → p < P → hasEnded (state (courseSteps P going) .processes p) ≡ true
     ended-all =
-        all-over t v (state (courseSteps P going)) (here .0) _ _ (here .1) (closed-all (courseSteps P going) (inner-course P going)) quiet
+        all-over t v (state (courseSteps P going)) (here .0) _ _ (here .1) (shut (courseSteps P going) (inner-course P going)) quiet
         (ap reliefIn (sym (stop-picks n v r 13 stops)) ∙ stops .1)
 
     pub over : (p : ℕ) → p < P → pickOf p (after (courseSteps P (suc going)) w) .answer ≡ ended

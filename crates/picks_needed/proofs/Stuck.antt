@@ -4,7 +4,7 @@
 use mathlib.Core.Path.{_≡_, refl, sym, ap, _∙_, subst}
 use mathlib.Core.Logic.{_⊎_, inl, inr}
 use mathlib.Core.Bool.{Bool, true, false, true≢false}
-use mathlib.Core.List.{List, _++_, append-nil}
+use mathlib.Core.List.{List}
 use Prim.Native.Nat.{ℕ, zero, suc, _+_, _-_, _<_}
 use native.Mathlib.Decide.{ℕ-discrete}
 use native.Mathlib.Omega.{arith}
@@ -29,7 +29,7 @@ use Rattle.relief.specs.Relief.{refused}
 use Rattle.relief.proofs.Relieving.{answers-13}
 use Rattle.schedule.specs.Running.{reliefIn}
 use Rattle.kahn.proofs.Unbounded.{State}
-use Rattle.kahn.proofs.Determined.{fill-full}
+use Rattle.kahn.proofs.Determined.{fed-all, fill-full}
 use Rattle.kahn.proofs.Allowed.{senderIn, hasEnded}
 use Rattle.kahn.proofs.PlainOrder.{stateOf}
 use Rattle.picks_needed.proofs.Onward.{Leads}
@@ -46,10 +46,7 @@ module _ (t : Task) (w : World) (H : State Process ℤ) (left : ℕ → List ℤ
   -- all of the input has come
   leads : Leads (net t) (stateOf s) H
   leads =
-      subst (Leads (net t) (stateOf s)) (fill-full (net t) input H sent shut) (a .going .way)
-    where
-      sent : (c : ℕ) → senderIn n c ≡ 255 → H .sent c ≡ input c
-      sent c o = sym (append-nil (H .sent c)) ∙ ap (λ (l : List ℤ). H .sent c ++ l) (sym (a .going .fed .done c o (shut c o))) ∙ a .going .fed .fits c o
+      subst (Leads (net t) (stateOf s)) (fill-full (net t) input H (λ c o. fed-all (net t) input H (a .going .fed) c o (shut c o)) shut) (a .going .way)
 
   channel-sound : (c : ℕ) → c < n .channels → ChannelSound (endedAt (w .lane) (senderOf n c)) (endedAt (w .lane) (receiverOf n c)) (channelOf (w .lane) c)
   channel-sound c h =

@@ -1,8 +1,8 @@
 -- A process of a lane on its way that waits: on which channel, whom it points to, and what is still to be sent on a channel that is full.
 -- Assumes nothing.
 use mathlib.Core.Path.{_≡_, refl, sym, ap, _∙_, subst, subst⁻¹}
-use mathlib.Core.Logic.{_≢_, _⊎_, inl, inr}
-use mathlib.Core.Bool.{Bool, true, false, cond, not, _&&_, _||_, false≢true}
+use mathlib.Core.Logic.{_⊎_, inl, inr, ⊎-elim}
+use mathlib.Core.Bool.{Bool, true, false, cond, false≢true}
 use mathlib.Core.List.{List}
 use mathlib.Core.Option.{none}
 use Prim.Native.Nat.{ℕ, _<_}
@@ -12,10 +12,8 @@ use lib.IntN.{ℤ}
 use lib.ListN.{length}
 use borrow.Author.Tests.{ltb-true, lt-ltb, eqb-true}
 use Rattle.base.proofs.Tests.{each-true}
-use Rattle.base.proofs.Conjunction.{both-true}
-use Rattle.base.specs.Tests.{between}
 use Rattle.network.specs.declared.Network.{Network}
-use Rattle.network.specs.Rules.{senderOf, receiverOf, capacityOf, outside, endRight, endsRight, recordRight, records, passes}
+use Rattle.network.specs.Rules.{senderOf, receiverOf, capacityOf, outside, endRight, recordRight, records, passes}
 use Rattle.network.proofs.Passed.{passed}
 use Rattle.process.specs.Process.{Process}
 use Rattle.process.specs.declared.Outcome.{Outcome}
@@ -23,6 +21,7 @@ use Rattle.process.specs.declared.Outcome.the-variants.{Moved, Sent, Halted, Wa
 use Rattle.process.specs.Intent.{idle, receive, send}
 use Rattle.lane.specs.State.{World, channelOf, endedAt}
 use Rattle.lane.specs.Pick.{channelIn, instructionFor, stepFor}
+use Rattle.lane_sound.proofs.Parts.{ends-right, either}
 use Rattle.waits.specs.Waits.{waitIn, waitOf, pointing, fullWait, waitsAt}
 use Rattle.waits.proofs.WaitLaws.{wait-any}
 use Rattle.kahn.proofs.Unbounded.{State, Owns, does}
@@ -31,41 +30,26 @@ use Rattle.kahn.proofs.Relation.{Related}
 use Rattle.kahn.proofs.Allowed.{senderIn, receiverIn, hasEnded, On, want-on}
 use Rattle.kahn.proofs.Instance.{Store, machineOf, wantsIn}
 use Rattle.kahn.proofs.PlainOrder.{stateOf}
-use Rattle.kahn.proofs.View.{boardOf, worldOf, answerOf, pick-is}
+use Rattle.kahn.proofs.View.{boardOf, worldOf, answerOf, is-there, pick-is}
 use Rattle.kahn.proofs.Events.{Stands, world-at, picks}
 use Rattle.picks_needed.proofs.Onward.{way-send}
 use Rattle.picks_needed.proofs.Waiting.{at-empty, at-full, at-over}
 use Rattle.picks_needed.proofs.Task.{Task, net, at-rest, OnTheWay}
 
 -- ---- the ends of a channel that is there
-is-there : (t : Bool) (e : ℕ) → cond t e 254 ≢ 254 → t ≡ true
-is-there true e h = refl
-is-there false e h = absurd (h refl)
-
 pub ends-are : (t : Bool) (e : ℕ) → t ≡ true → cond t e 254 ≡ e
 ends-are t e h = rw h
 
 end-by : (e processes : ℕ) → endRight e processes ≡ true → (e < processes) ⊎ (e ≡ outside)
-end-by e processes = at (ltb e processes) refl
-  where
-    at : (t : Bool) → ltb e processes ≡ t → (t || eqb e outside) ≡ true → (e < processes) ⊎ (e ≡ outside)
-    at true q h = inl (ltb-true e processes q)
-    at false q h = inr (eqb-true e outside h)
-
-ends-by : (a b capacity processes : ℕ) → endsRight a b capacity processes ≡ true → ((a < processes) ⊎ (a ≡ outside)) × ((b < processes) ⊎ (b ≡ outside))
-unfolding endsRight
-ends-by a b capacity processes e =
-    let x = both-true (endRight a processes && endRight b processes && not (eqb a outside && eqb b outside)) (between 1 capacity 256) e .0 in
-    let y = both-true (endRight a processes && endRight b processes) (not (eqb a outside && eqb b outside)) x .0 in
-    let z = both-true (endRight a processes) (endRight b processes) y in
-    (end-by a processes (z .0), end-by b processes (z .1))
+end-by e processes h = ⊎-elim (λ q. inl (ltb-true e processes q)) (λ q. inr (eqb-true e outside q)) (either (ltb e processes) (eqb e outside) h)
 
 pub channel-ends : (n : Network) → passes n ≡ true → (c : ℕ) → c < n .channels
     → ((senderOf n c < n .processes) ⊎ (senderOf n c ≡ outside)) × ((receiverOf n c < n .processes) ⊎ (receiverOf n c ≡ outside))
 unfolding records
 channel-ends n pass c h =
-    ends-by (senderOf n c) (receiverOf n c) (capacityOf n c) (n .processes)
-    (each-true (recordRight n) 0 (n .channels) (passed n pass .records-good) c (omega arith) (omega arith))
+    let r = ends-right (senderOf n c) (receiverOf n c) (capacityOf n c) (n .processes)
+    (each-true (recordRight n) 0 (n .channels) (passed n pass .records-good) c (omega arith) (omega arith)) in
+    (end-by (senderOf n c) (n .processes) (r .0), end-by (receiverOf n c) (n .processes) (r .1))
 
 -- ---- a full channel has a receiver that has not ended, and holds as many as it may
 full-by : (gone : Bool) (held capacity : ℕ) → cond gone false (eqb held capacity) ≡ true → (gone ≡ false) × (held ≡ capacity)
@@ -128,6 +112,18 @@ module _ (t : Task) where
     waits-so : (o : Outcome) → stepFor q w .outcome ≡ o → waitOf (w .lane) q ≡ waitIn o (channelIn (instructionFor q (w .lane)))
     waits-so o e = wait-any (w .lane) (w .cells) q ∙ ap (λ (y : Outcome). waitIn y (channelIn (instructionFor q (w .lane)))) e
 
+    -- a channel of which q is an end, named by its instruction: it is there, and it is the one that q waits on
+    record Named (c : ℕ) : Type 0 where
+      there : c < n .channels
+      low-channel : c < 32
+      at : channelIn (instructionFor q (w .lane)) ≡ c
+
+    named : (c e : ℕ) → cond (ltb c (n .channels)) e 254 ≡ q → c ≡ instructionFor q (w .lane) .b → Named c
+    named c e mine same =
+        let l = ltb-true c (n .channels) (is-there n pass (ltb c (n .channels)) e (omega (arith, low))) in
+        let b : c < 32 = omega (arith, passed n pass .channels-high) in
+        record { there = l; low-channel = b; at = omega arith }
+
     over-at : stepFor q w .outcome ≡ Ended → wantsIn n q (H .processes q) ≡ idle
     over-at e = ap (wantsIn n q) (sym (R .same q)) ∙ at-over (machineOf n pass) b q (turned Ended e)
 
@@ -137,21 +133,17 @@ module _ (t : Task) where
         let k = at-empty (machineOf n pass) b q (turned WaitEmpty e) in
         let c : ℕ = k .channel in
         let into : receiverIn n c ≡ q = subst (Owns (senderIn n) (receiverIn n) q) (k .wants) owned in
-        let same : c ≡ instructionFor q (w .lane) .b = subst (On (instructionFor q (w .lane) .b)) (k .wants) wants-at in
-        let t = is-there (ltb c (n .channels)) (receiverOf n c) (omega (arith, low)) in
-        let l = ltb-true c (n .channels) t in
-        let m : channelIn (instructionFor q (w .lane)) ≡ c = omega (arith, passed n pass .channels-high) in
-        let L = R .lines c (omega (arith, passed n pass .channels-high)) in
+        let m = named c (receiverOf n c) into (subst (On (instructionFor q (w .lane) .b)) (k .wants) wants-at) in
         record {
           channel = c;
           next = k .next;
           end = k .end;
           wants = ap (wantsIn n q) (sym (R .same q)) ∙ k .wants;
           waits = (rw e at (picks n pass accepted b H out R q h)) .0;
-          there = l;
-          points = rw (lt-ltb q (n .processes) h, waits-so WaitEmpty e, m);
+          there = m .there;
+          points = rw (lt-ltb q (n .processes) h, waits-so WaitEmpty e, m .at);
           unclosed = k .unclosed;
-          unshut = sym (L .shut) ∙ k .unclosed;
+          unshut = sym (R .lines c (m .low-channel) .shut) ∙ k .unclosed;
         }
 
     full-at : stepFor q w .outcome ≡ WaitFull → FullAt w q
@@ -160,22 +152,19 @@ module _ (t : Task) where
         let k = at-full (machineOf n pass) b q (turned WaitFull e) in
         let c : ℕ = k .channel in
         let from : senderIn n c ≡ q = subst (Owns (senderIn n) (receiverIn n) q) (k .wants) owned in
-        let same : c ≡ instructionFor q (w .lane) .b = subst (On (instructionFor q (w .lane) .b)) (k .wants) wants-at in
-        let there = is-there (ltb c (n .channels)) (senderOf n c) (omega (arith, low)) in
-        let l = ltb-true c (n .channels) there in
-        let m : channelIn (instructionFor q (w .lane)) ≡ c = omega (arith, passed n pass .channels-high) in
-        let L = R .lines c (omega (arith, passed n pass .channels-high)) in
+        let m = named c (senderOf n c) from (subst (On (instructionFor q (w .lane) .b)) (k .wants) wants-at) in
+        let L = R .lines c (m .low-channel) in
         let f = full-by (hasEnded (processAt (machineOf n pass) b (receiverIn n c))) (channelAt (machineOf n pass) b c .held) (channelAt (machineOf n pass) b c .capacity) (k .filled) in
         let i : wantsIn n q (H .processes q) ≡ send c (k .message) (k .next) (k .fault) = ap (wantsIn n q) (sym (R .same q)) ∙ k .wants in
         let more = way-send (net t) (stateOf s) (at-rest t) input q c (k .message) (k .next) (k .fault) H (λ z. omega (arith, low)) i (sym (L .shut) ∙ k .unclosed) way in
         record {
           channel = c;
-          there = l;
-          at = rw (waits-so WaitFull e, m);
-          room = rw (waits-so WaitFull e, m);
-          points = rw (lt-ltb q (n .processes) h, waits-so WaitFull e, m);
+          there = m .there;
+          at = rw (waits-so WaitFull e, m .at);
+          room = rw (waits-so WaitFull e, m .at);
+          points = rw (lt-ltb q (n .processes) h, waits-so WaitFull e, m .at);
           mine = from;
-          alive = ap (endedAt (w .lane)) (sym (ends-are (ltb c (n .channels)) (receiverOf n c) there)) ∙ f .0;
+          alive = ap (endedAt (w .lane)) (sym (ends-are (ltb c (n .channels)) (receiverOf n c) (lt-ltb c (n .channels) (m .there)))) ∙ f .0;
           short = omega (arith, more, L .count, f .1);
         }
 
