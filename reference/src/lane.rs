@@ -117,6 +117,13 @@ impl Lane {
         }
     }
 
+    /// What a pick of this process sends if it moves: the channel and the value.
+    pub fn sending(&self, process: usize) -> Option<(usize, i32)> {
+        let Instruction { op, a, b, .. } = self.instruction(process);
+        let sends = op == 12 && !self.channels[usize::from(b)].closed;
+        sends.then(|| (usize::from(b), self.processes[process].registers[usize::from(a)]))
+    }
+
     /// Whether some process would wait at a full channel.
     #[inline(always)]
     pub(crate) fn has_full_wait(&self) -> bool {

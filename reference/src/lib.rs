@@ -18,6 +18,7 @@
 //! | `script`   | the lines of a script of calls                             |
 //! | `replay`   | replaying such a script                                    |
 //! | `plain`    | the plain order, with channels that never fill             |
+//! | `limit`    | how many picks a drive can need                            |
 //! | `random`   | random numbers that can be repeated                        |
 //! | `plans`    | random networks                                            |
 //! | `programs` | random programs for their processes                        |
@@ -38,6 +39,7 @@ pub mod damage;
 pub mod file;
 pub mod gen;
 pub mod lane;
+pub mod limit;
 pub mod met;
 pub mod network;
 pub mod odd;

@@ -5,6 +5,7 @@ use crate::bench::Watch;
 use crate::calls::Answer;
 use crate::coverage::{names_of_none, Counted, Picks};
 use crate::lane::{Cells, Channel, Lane, Wait, CELLS};
+use crate::limit::{Course, Limit};
 use crate::network::{CAPACITY, CHANNELS, OUTSIDE, PROCESSES};
 use crate::refusal::Refusal;
 use crate::relief::Ring;
@@ -240,6 +241,19 @@ impl Met {
         self.meet("drive: enlarged though no pick waited full", unseen);
         let gone = met(&|round| round.waited_full && round.relieved == Err(Refusal::NoRing));
         self.meet("drive: 13 though a pick waited full", gone);
+    }
+
+    /// A drive with as many picks as it can need, or more.
+    pub fn limit(&mut self, limit: &Limit, course: &Course, picks: u64) {
+        let exactly = picks == limit.picks();
+        self.meet("limit: settled with just as many picks", exactly);
+        self.meet("limit: settled with more picks", !exactly);
+        self.meet("limit: enlarged", exactly && course.enlarged > 0);
+        self.meet("limit: enlarged several times", exactly && course.enlarged > 1);
+        let all = course.rounds == limit.rounds();
+        self.meet("limit: all N + G + 1 rounds made", exactly && all);
+        self.meet("limit: an output filled", limit.fills_an_output());
+        self.meet("limit: a fault", limit.has_fault());
     }
 
     fn pick(&mut self, lane: &Lane, process: usize, answer: &str) {

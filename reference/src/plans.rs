@@ -52,6 +52,19 @@ pub fn clocked(random: &mut Random) -> Network {
     Plan::clocked(random).network(random)
 }
 
+/// A network most of whose processes come to an end by themselves, with rings
+/// that get stuck on the way.
+pub fn ending(random: &mut Random) -> Network {
+    let mut plan = match random.below(5) {
+        0 => Plan::any(random),
+        1 => Plan::detour(random),
+        2 => Plan::clocked(random),
+        _ => Plan::rings(random),
+    };
+    plan.end(random);
+    plan.network(random)
+}
+
 /// A lane before its code is written.
 struct Plan {
     styles: Vec<Style>,
@@ -238,6 +251,15 @@ impl Plan {
             }
         }
         plan
+    }
+
+    /// Lets no process take turns for ever.
+    fn end(&mut self, random: &mut Random) {
+        for style in &mut self.styles {
+            if let Style::Turns { laps, .. } = style {
+                *laps = Some(laps.unwrap_or(random.between(1, 6) as u8));
+            }
+        }
     }
 
     /// A ring whose members only send, near the largest capacity.

@@ -4,14 +4,16 @@
 use crate::clauses::{clauses, Clause};
 use crate::damage;
 use crate::file::{self, BLOCK};
+use crate::gen::fed;
 use crate::lane::{Lane, CELLS};
+use crate::limit::{self, Limit};
 use crate::met::{Met, Played};
 use crate::network::{Network, CHANNELS, OUTSIDE, PROCESSES};
 use crate::odd;
 use crate::plans;
 use crate::random::Random;
 use crate::replay::Replay;
-use crate::schedule::{drive, End, RELIEF};
+use crate::schedule::{drive, Driven, End, RELIEF};
 use crate::script::{parse, Call, Edit, Line};
 use std::io;
 use std::path::Path;
@@ -19,6 +21,8 @@ use std::path::Path;
 /// Writes scripts, one after the other.
 pub struct Scripts<'a> {
     random: Random,
+    /// For the lanes at the ends of the scripts: the rest does not hang on them.
+    limits: Random,
     /// Where the lane files go.
     folder: &'a Path,
     clauses: Vec<Clause>,
@@ -27,7 +31,13 @@ pub struct Scripts<'a> {
 
 impl Scripts<'_> {
     pub fn new(seed: u64, folder: &Path) -> Scripts<'_> {
-        Scripts { random: Random::new(seed), folder, clauses: clauses(), met: Met::default() }
+        Scripts {
+            random: Random::new(seed),
+            limits: Random::new(seed ^ 0x6C69_6D69),
+            folder,
+            clauses: clauses(),
+            met: Met::default(),
+        }
     }
 
     /// The next script. Its lane files are written.
@@ -45,6 +55,9 @@ impl Scripts<'_> {
         damage::file(random, &network, &mut damaged);
         std::fs::write(self.folder.join(format!("lane{number}.bin")), &intact)?;
         std::fs::write(self.folder.join(format!("bad{number}.bin")), &damaged)?;
+        let (ending, input) = limit::case(&mut self.limits);
+        let file = file::bytes_of(&ending);
+        std::fs::write(self.folder.join(format!("limit{number}.bin")), file)?;
         let mut script = Script {
             random,
             clauses: &self.clauses,
@@ -54,6 +67,8 @@ impl Scripts<'_> {
             text: String::new(),
         };
         script.write()?;
+        script.random = &mut self.limits;
+        script.limit(&ending, &input)?;
         Ok(script.text)
     }
 
@@ -363,6 +378,33 @@ impl<'a> Script<'a> {
             };
             self.say(&line)?;
         }
+        Ok(())
+    }
+
+    /// A fresh lane with all input fed and closed, as many picks as a drive of it
+    /// can need or more, and then a pick of each process.
+    fn limit(&mut self, network: &Network, input: &[Vec<i32>]) -> io::Result<()> {
+        let limit = Limit::of(network, input).expect("a case of the limit");
+        self.say(&format!("lane limit{}.bin", self.number))?;
+        for channel in fed(network).into_iter().map(usize::from) {
+            for value in &input[channel] {
+                let lent = self.random.one(&["", "", "lent-"]);
+                self.say(&format!("{lent}feed {channel} {value}"))?;
+            }
+            self.say(&format!("close {channel}"))?;
+        }
+        let cells = self.replay.state.cells[..CELLS].try_into().expect("the cells of a drive");
+        let course = limit.course(self.lane(), cells);
+        let Driven { picks: made, enlarged, .. } = course.settled();
+        let more = limit.picks() + self.random.between(1, 100) as u64;
+        let picks = self.random.one(&[limit.picks(), limit.picks(), more, u64::MAX]);
+        let answer = self.answer(&format!("drive {picks}"))?;
+        let answer = answer.split(';').next();
+        assert_eq!(answer, Some(&format!(": settled picks {made} enlarged {enlarged}")[..]));
+        for process in 0..network.processes {
+            assert_eq!(self.answer(&format!("pick {process}"))?, ": ended");
+        }
+        self.met.limit(&limit, &course, picks);
         Ok(())
     }
 

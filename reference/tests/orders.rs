@@ -5,7 +5,7 @@
 use reference::calls::{close, feed, pick, take, Answer, Taken};
 use reference::file::bytes_of;
 use reference::lane::{Condition, Lane, Process, Wait, CELLS};
-use reference::network::{Network, OUTSIDE};
+use reference::network::{Network, OUTSIDE, PROCESSES};
 use reference::plain::Plain;
 use reference::plans;
 use reference::random::Random;
@@ -45,13 +45,7 @@ impl Board<'_> {
     }
 
     fn pick(&mut self, process: usize) -> bool {
-        let sending = || {
-            let stands = self.lane.processes.get(process)?;
-            let i = self.lane.instruction(process);
-            let open = i.op == 12 && !self.lane.channels[usize::from(i.b)].closed;
-            open.then(|| (usize::from(i.b), stands.registers[usize::from(i.a)]))
-        };
-        let sending = sending();
+        let sending = if process < PROCESSES { self.lane.sending(process) } else { None };
         let answer = pick(&mut self.lane, &mut self.cells, process);
         let moved = self.count(answer) == Some(Answer::Moved);
         if moved {
