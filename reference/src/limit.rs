@@ -187,6 +187,12 @@ impl Course {
         Driven { end: End::Settled, picks, enlarged: self.enlarged }
     }
 
+    /// Whether a channel was enlarged to the largest capacity.
+    pub fn grew_to_the_largest(&self) -> bool {
+        let mut channels = self.lane.network.used_records().iter().zip(&self.lane.channels);
+        channels.any(|(record, channel)| record.capacity < CAPACITY && channel.capacity == CAPACITY)
+    }
+
     /// Holds a drive of the same lane to these rounds.
     pub fn drive(&self, lane: &Lane, cells: &Cells, picks: u64) {
         let (mut lane, mut cells) = (lane.clone(), Box::new(*cells));

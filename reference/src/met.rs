@@ -250,6 +250,7 @@ impl Met {
         self.meet("limit: settled with more picks", !exactly);
         self.meet("limit: enlarged", exactly && course.enlarged > 0);
         self.meet("limit: enlarged several times", exactly && course.enlarged > 1);
+        self.meet("limit: enlarged to 256", course.grew_to_the_largest());
         let all = course.rounds == limit.rounds();
         self.meet("limit: all N + G + 1 rounds made", exactly && all);
         self.meet("limit: an output filled", limit.fills_an_output());

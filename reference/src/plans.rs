@@ -55,10 +55,11 @@ pub fn clocked(random: &mut Random) -> Network {
 /// A network most of whose processes come to an end by themselves, with rings
 /// that get stuck on the way.
 pub fn ending(random: &mut Random) -> Network {
-    let mut plan = match random.below(5) {
-        0 => Plan::any(random),
-        1 => Plan::detour(random),
-        2 => Plan::clocked(random),
+    let mut plan = match random.below(20) {
+        0..=3 => Plan::any(random),
+        4..=7 => Plan::detour(random),
+        8..=11 => Plan::clocked(random),
+        12 => Plan::brimful(random),
         _ => Plan::rings(random),
     };
     plan.end(random);
@@ -270,6 +271,20 @@ impl Plan {
             let lap = vec![Turn::Send(to); random.between(8, 60)];
             self.styles[sender] = Style::Turns { before: Vec::new(), lap, laps: None };
         }
+    }
+
+    /// A ring whose members each send as much as a channel can hold at the most.
+    fn brimful(random: &mut Random) -> Plan {
+        let mut plan = Plan::with(random.between(1, 3));
+        let members = numbers(random, plan.processes());
+        plan.filling_ring(random, &members);
+        for style in &mut plan.styles {
+            if let Style::Turns { lap, laps, .. } = style {
+                lap.resize(64, lap[0]);
+                *laps = Some((CAPACITY / 64) as u8);
+            }
+        }
+        plan
     }
 
     /// Several receives in a row and few picks, so that the listing often ends

@@ -35,16 +35,17 @@ fn settled(picks: u64, enlarged: u64) -> Driven {
     Driven { end: End::Settled, picks, enlarged }
 }
 
-/// N, G, the rounds made and the enlargements, where the limit holds.
-fn figures(network: &Network, input: &[Vec<i32>]) -> Option<[u64; 4]> {
+/// N, G, the picks of the limit, the rounds made and the enlargements, where the
+/// limit holds.
+fn figures(network: &Network, input: &[Vec<i32>]) -> Option<[u64; 5]> {
     assert!(network.fits());
     let limit = Limit::of(network, input)?;
     let course = tried(&limit, cells(), 1);
-    Some([limit.moves, limit.sent, course.rounds, course.enlarged])
+    Some([limit.moves, limit.sent, limit.picks(), course.rounds, course.enlarged])
 }
 
 /// The same without input.
-fn unfed(programs: &[Vec<Instruction>], channels: &[Record]) -> Option<[u64; 4]> {
+fn unfed(programs: &[Vec<Instruction>], channels: &[Record]) -> Option<[u64; 5]> {
     figures(&Network::of(programs, channels), &vec![Vec::new(); channels.len()])
 }
 
@@ -84,7 +85,7 @@ const PAIR: [Record; 2] = [
 #[test]
 fn a_stop_alone_needs_both_rounds() {
     let (programs, channels) = ([vec![STOP]], [channel(0, 0, 1)]);
-    assert_eq!(unfed(&programs, &channels), Some([1, 0, 2, 0]));
+    assert_eq!(unfed(&programs, &channels), Some([1, 0, 2, 2, 0]));
     // P × (N + G) picks are not enough.
     let lane = fresh(&[&[STOP]], &channels);
     assert_eq!(driven(&lane, &cells(), 1).0, Driven { end: End::Spent, picks: 1, enlarged: 0 });
@@ -100,8 +101,8 @@ fn a_countdown_beside_a_stuck_pair() {
     // and grow by turns, the lower one first. 1 receives in rounds 7 to 10, 2
     // sends its last message in round 7 and stops in round 12.
     let channels = [channel(1, 2, 1), channel(2, 1, 1)];
-    assert_eq!(unfed(&[clock, one(0, 1), one(1, 0)], &channels), Some([35, 8, 18, 5]));
-    assert_eq!(unfed(&[one(0, 1), one(1, 0)], &PAIR), Some([18, 8, 13, 5]));
+    assert_eq!(unfed(&[clock, one(0, 1), one(1, 0)], &channels), Some([35, 8, 132, 18, 5]));
+    assert_eq!(unfed(&[one(0, 1), one(1, 0)], &PAIR), Some([18, 8, 54, 13, 5]));
 }
 
 #[test]
@@ -109,8 +110,8 @@ fn a_channel_that_is_sent_256() {
     // Both channels grow, the lower one to 256: by then the other sender has one
     // message to send. N is 2 × (2 × 353 + 1).
     let pair = |first| [sends_first(first, 32, 0, 1), sends_first(first, 32, 1, 0)];
-    let [moves, sent, _, enlarged] = unfed(&pair(0), &PAIR).unwrap();
-    assert_eq!([moves, sent, enlarged], [1_414, 512, 255 + 254]);
+    let [moves, sent, picks, _, enlarged] = unfed(&pair(0), &PAIR).unwrap();
+    assert_eq!([moves, sent, picks, enlarged], [1_414, 512, 3_854, 255 + 254]);
     // One message more: both wait at 256.
     assert_eq!(unfed(&pair(1), &PAIR), None);
     let lane = Lane::fresh(Network::of(&pair(1), &PAIR));
@@ -123,7 +124,7 @@ fn a_channel_that_is_sent_256() {
 #[test]
 fn a_self_channel_that_is_sent_256() {
     let own = |first| [stopping(times(vec![send(0); first], 32, &[send(0); 8]))];
-    assert_eq!(unfed(&own(0), &[channel(0, 0, 1)]), Some([354, 256, 355, 255]));
+    assert_eq!(unfed(&own(0), &[channel(0, 0, 1)]), Some([354, 256, 611, 355, 255]));
     assert_eq!(unfed(&own(1), &[channel(0, 0, 1)]), None);
     let lane = Lane::fresh(Network::of(&own(1), &[channel(0, 0, 1)]));
     assert_eq!(driven(&lane, &cells(), u64::MAX).0.end, End::Ceiling);
@@ -136,7 +137,7 @@ fn all_but_one_of_g_enlargements() {
     for sends in 1..=255 {
         let own = stopping(vec![send(0); sends]);
         let sent = sends as u64;
-        let expected = [sent + 1, sent, sent + 2, sent - 1];
+        let expected = [sent + 1, sent, 2 * sent + 2, sent + 2, sent - 1];
         assert_eq!(unfed(&[own], &[channel(0, 0, 1)]), Some(expected));
     }
 }
@@ -144,7 +145,7 @@ fn all_but_one_of_g_enlargements() {
 #[test]
 fn an_output_one_too_small() {
     let program = stopping(vec![send(0); 3]);
-    assert_eq!(unfed(&[program.clone()], &[to_outside(0, 3)]), Some([4, 3, 5, 0]));
+    assert_eq!(unfed(&[program.clone()], &[to_outside(0, 3)]), Some([4, 3, 8, 5, 0]));
     assert_eq!(unfed(&[program.clone()], &[to_outside(0, 2)]), None);
     // It settles, but is not at rest.
     let lane = fresh(&[&program], &[to_outside(0, 2)]);
@@ -161,7 +162,7 @@ fn input_that_is_not_all_fed_and_closed() {
     assert_eq!(figures(&network, &input), None);
     network.records[0].capacity = 2;
     network.records[1].capacity = 2;
-    assert_eq!(figures(&network, &input), Some([10, 2, 11, 0]));
+    assert_eq!(figures(&network, &input), Some([10, 2, 13, 11, 0]));
     // Left open: it settles, but the process has not ended.
     let limit = Limit::of(&network, &input).unwrap();
     let mut cells = cells();
@@ -198,6 +199,7 @@ fn random_lanes() {
             ("enlarged", course.enlarged > 0),
             ("enlarged several times", course.enlarged > 1),
             ("enlarged ten times or more", course.enlarged > 9),
+            ("enlarged to 256", course.grew_to_the_largest()),
             ("an output filled", limit.fills_an_output()),
             ("input", fed(&network).iter().any(|&channel| !input[usize::from(channel)].is_empty())),
             ("a fault", limit.has_fault()),
