@@ -18,6 +18,7 @@
 //! | `script`   | the lines of a script of calls                             |
 //! | `replay`   | replaying such a script                                    |
 //! | `plain`    | the plain order, with channels that never fill             |
+//! | `board`    | a lane and all that happened on it                         |
 //! | `limit`    | how many picks a drive can need                            |
 //! | `random`   | random numbers that can be repeated                        |
 //! | `plans`    | random networks                                            |
@@ -31,6 +32,7 @@
 //! | `met`      | what scripts have met                                      |
 
 pub mod bench;
+pub mod board;
 pub mod calls;
 pub mod check;
 pub mod clauses;

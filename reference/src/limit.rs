@@ -1,11 +1,13 @@
 //! How many picks a drive can need (request 11). Where the plain order ends every
 //! process, after N moves and G messages sent from inside, a drive of the fresh
-//! lane with all input fed and closed needs P × (N + G + 1) at most.
+//! lane with all input fed and closed needs P × (N + G + 1) at most. Other calls
+//! may have been made before it: their moves and enlargements count as rounds.
 
-use crate::calls::{close, feed, pick, Answer};
+use crate::board::{Board, Leanings};
+use crate::calls::{pick, Answer};
 use crate::gen::fed;
 use crate::lane::{Cells, Condition, Lane};
-use crate::network::{Network, Record, CAPACITY, OUTSIDE};
+use crate::network::{Network, CAPACITY, OUTSIDE};
 use crate::plain::{Plain, Stream};
 use crate::plans;
 use crate::random::Random;
@@ -29,14 +31,19 @@ pub struct Limit<'a> {
 }
 
 impl Limit<'_> {
-    /// None where the plain order does not end every process, sends more than 256
-    /// on a channel, or more than its capacity on one from outside (it could not
-    /// be fed before the drive) or to outside.
+    /// The request's own case: all input finds room before the drive.
     pub fn of<'a>(network: &'a Network, input: &'a [Vec<i32>]) -> Option<Limit<'a>> {
+        Limit::with_any_input(network, input).filter(|limit| !limit.has_long_input())
+    }
+
+    /// An input may be longer than its channel has room for: it is then fed bit by
+    /// bit. None where the plain order does not end every process, sends more than
+    /// 256 on a channel, or more than its capacity on one to outside.
+    pub fn with_any_input<'a>(network: &'a Network, input: &'a [Vec<i32>]) -> Option<Limit<'a>> {
         let plain = ended(network, input)?;
         let streams = || network.used_records().iter().zip(&plain.streams);
         let finds_room = streams().all(|(record, stream)| {
-            let room = if is_outside(record) { record.capacity } else { CAPACITY };
+            let room = if record.receiver == OUTSIDE { record.capacity } else { CAPACITY };
             stream.sent.len() <= room.into()
         });
         let moves = plain.processes.iter().map(|process| process.moves).sum();
@@ -56,24 +63,57 @@ impl Limit<'_> {
         u64::from(self.network.processes) * self.rounds()
     }
 
+    /// The rounds that are left to a drive after what was done before it.
+    pub fn rounds_left(&self, board: &Board) -> u64 {
+        self.rounds() - board.moves - board.enlarged
+    }
+
     /// The fresh lane with all its input fed and closed.
-    pub fn lane(&self, cells: &mut Cells) -> Lane {
-        let mut lane = Lane::fresh(self.network.clone());
+    pub fn lane(&self, cells: Box<Cells>) -> Board<'_> {
+        let mut board = Board::new(self.network, self.input, cells);
         for channel in fed(self.network).into_iter().map(usize::from) {
-            for &value in &self.input[channel] {
-                feed(&mut lane, cells, channel, value).expect("room for all input");
-            }
-            close(&mut lane, channel).expect("an open channel");
+            while board.feed(channel) {}
+            assert!(board.close(channel), "room for all input");
         }
-        lane
+        board
+    }
+
+    /// The fresh lane after calls of any kind, fewer than so many at first, and
+    /// then until all input is fed and closed.
+    pub fn other_steps(&self, random: &mut Random, cells: Box<Cells>, most: usize) -> Board<'_> {
+        let mut board = Board::new(self.network, self.input, cells);
+        let leanings = Leanings::any(random);
+        for _ in 0..random.below(most) {
+            board.any_call(random, &leanings);
+            self.test_never_more(&board);
+        }
+        while !board.has_all_input() {
+            // Processes that all wait, none of them for the outside, stand before a
+            // ring. The plain order ends them, so one of its waits is a full one.
+            assert!(board.lap(), "stuck for good");
+            self.test_never_more(&board);
+            board.any_call(random, &leanings);
+            self.test_never_more(&board);
+        }
+        board
+    }
+
+    /// What holds at any moment, all input fed or not. No count ever falls, so that
+    /// one look after several calls is enough.
+    fn test_never_more(&self, board: &Board) {
+        assert!(board.moves <= self.moves, "{} moves", board.moves);
+        assert!(board.enlarged <= self.sent, "{} enlargements", board.enlarged);
+        // Who waits at a full channel of 256 has a message more to send.
+        assert_eq!(board.refused[usize::from(Refusal::Ceiling.number())], 0);
     }
 
     /// Makes the rounds of a drive of that lane one by one, and holds them to all
     /// that the limit promises.
-    pub fn course(&self, lane: &Lane, cells: &Cells) -> Course {
-        let mut course = Course::of(lane, cells, self.rounds());
+    pub fn course(&self, board: &Board) -> Course {
+        let mut course = Course::of(board, self.rounds_left(board));
         assert!(course.is_over, "it goes on after N + G + 1 rounds");
-        assert!(course.enlarged <= self.sent, "{} enlargements", course.enlarged);
+        let enlarged = board.enlarged + course.enlarged;
+        assert!(enlarged <= self.sent, "{enlarged} enlargements");
         assert!(!course.met_ceiling, "a relief was refused with 14");
         let processes = self.plain.processes.len();
         for process in 0..processes {
@@ -93,13 +133,17 @@ impl Limit<'_> {
         })
     }
 
+    /// Whether an input is longer than its channel has room for at first.
+    pub fn has_long_input(&self) -> bool {
+        let mut streams = self.network.used_records().iter().zip(&self.plain.streams);
+        streams.any(|(record, stream)| {
+            record.sender == OUTSIDE && stream.sent.len() > record.capacity.into()
+        })
+    }
+
     pub fn has_fault(&self) -> bool {
         self.plain.processes.iter().any(|process| process.condition == Condition::Faulted)
     }
-}
-
-fn is_outside(record: &Record) -> bool {
-    record.sender == OUTSIDE || record.receiver == OUTSIDE
 }
 
 /// The plain order after its first round in which every process has ended.
@@ -132,22 +176,17 @@ pub struct Course {
 }
 
 impl Course {
-    /// So many rounds at most, from a lane on which nothing but feeds and closings
-    /// was done.
-    fn of(lane: &Lane, cells: &Cells, most: u64) -> Course {
-        let held = |channel: usize| {
-            let first = channel * usize::from(CAPACITY);
-            cells[first..][..lane.channels[channel].held.into()].to_vec()
-        };
+    /// So many rounds at most.
+    fn of(board: &Board, most: u64) -> Course {
         let mut course = Course {
             rounds: 0,
             busy: 0,
             enlarged: 0,
             met_ceiling: false,
             is_over: false,
-            sent: (0..lane.network.channels.into()).map(held).collect(),
-            lane: lane.clone(),
-            cells: Box::new(*cells),
+            sent: board.sent.clone(),
+            lane: board.lane.clone(),
+            cells: board.cells.clone(),
         };
         while course.rounds < most && !course.is_over {
             course.round();
@@ -194,34 +233,46 @@ impl Course {
     }
 
     /// Holds a drive of the same lane to these rounds.
-    pub fn drive(&self, lane: &Lane, cells: &Cells, picks: u64) {
-        let (mut lane, mut cells) = (lane.clone(), Box::new(*cells));
+    pub fn drive(&self, board: &Board, picks: u64) {
+        let (mut lane, mut cells) = (board.lane.clone(), board.cells.clone());
         assert_eq!(drive(&mut lane, &mut cells[..], picks), Ok(self.settled()));
         assert!(lane == self.lane && cells == self.cells);
     }
 }
 
-/// A random network with input, of which the limit holds.
+/// A random network with input, of which the limit holds in the request's own
+/// case.
 pub fn case(random: &mut Random) -> (Network, Vec<Vec<i32>>) {
+    any_case(random, 12, false)
+}
+
+/// The same where inputs have up to so many values, and may be longer than their
+/// channels have room for.
+pub fn case_with_any_input(random: &mut Random, longest: usize) -> (Network, Vec<Vec<i32>>) {
+    any_case(random, longest, true)
+}
+
+fn any_case(random: &mut Random, longest: usize, any_input: bool) -> (Network, Vec<Vec<i32>>) {
     loop {
         let mut network =
             if random.percent(25) { plans::lane(random) } else { plans::ending(random) };
-        let values = |_| (0..random.below(13)).map(|_| random.value()).collect();
+        let values = |_| (0..random.below(longest + 1)).map(|_| random.value()).collect();
         let input: Vec<Vec<i32>> = (0..network.channels).map(values).collect();
         let Some(Plain { streams, .. }) = ended(&network, &input) else { continue };
-        make_room(random, &mut network, &streams);
-        if Limit::of(&network, &input).is_some() {
+        make_room(random, &mut network, &streams, any_input);
+        if Limit::with_any_input(&network, &input).is_some() {
             return (network, input);
         }
     }
 }
 
-/// Gives the channels from and to outside capacity for all that is sent on them,
-/// often no more than that.
-fn make_room(random: &mut Random, network: &mut Network, streams: &[Stream]) {
+/// Gives the channels to outside, and for some cases those from there, capacity
+/// for all that is sent on them, often no more than that.
+fn make_room(random: &mut Random, network: &mut Network, streams: &[Stream], any_input: bool) {
     for (record, stream) in network.records.iter_mut().zip(streams) {
         let least = stream.sent.len().clamp(1, CAPACITY.into()) as u16;
-        if is_outside(record) && (record.capacity < least || random.percent(50)) {
+        let is_due = record.receiver == OUTSIDE || record.sender == OUTSIDE && !any_input;
+        if is_due && (record.capacity < least || random.percent(50)) {
             record.capacity = least;
         }
     }

@@ -2,6 +2,7 @@
 //! have missed.
 
 use crate::bench::Watch;
+use crate::board::Board;
 use crate::calls::Answer;
 use crate::coverage::{names_of_none, Counted, Picks};
 use crate::lane::{Cells, Channel, Lane, Wait, CELLS};
@@ -244,17 +245,21 @@ impl Met {
     }
 
     /// A drive with as many picks as it can need, or more.
-    pub fn limit(&mut self, limit: &Limit, course: &Course, picks: u64) {
+    pub fn limit(&mut self, limit: &Limit, board: &Board, course: &Course, picks: u64) {
         let exactly = picks == limit.picks();
         self.meet("limit: settled with just as many picks", exactly);
         self.meet("limit: settled with more picks", !exactly);
         self.meet("limit: enlarged", exactly && course.enlarged > 0);
         self.meet("limit: enlarged several times", exactly && course.enlarged > 1);
         self.meet("limit: enlarged to 256", course.grew_to_the_largest());
-        let all = course.rounds == limit.rounds();
+        let all = course.rounds == limit.rounds_left(board);
         self.meet("limit: all N + G + 1 rounds made", exactly && all);
         self.meet("limit: an output filled", limit.fills_an_output());
         self.meet("limit: a fault", limit.has_fault());
+        self.meet("limit: other steps before", board.moves > 0);
+        let both = board.enlarged > 0 && course.enlarged > 0;
+        self.meet("limit: enlarged before, and in the drive", both);
+        self.meet("limit: input longer than its channel", limit.has_long_input());
     }
 
     fn pick(&mut self, lane: &Lane, process: usize, answer: &str) {

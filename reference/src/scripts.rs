@@ -1,10 +1,10 @@
 //! Random scripts of calls. They are played along here, so that edits and calls
 //! suit the state of the lane, and so that what they meet can be counted.
 
+use crate::board::Board;
 use crate::clauses::{clauses, Clause};
 use crate::damage;
 use crate::file::{self, BLOCK};
-use crate::gen::fed;
 use crate::lane::{Lane, CELLS};
 use crate::limit::{self, Limit};
 use crate::met::{Met, Played};
@@ -17,6 +17,9 @@ use crate::schedule::{drive, Driven, End, RELIEF};
 use crate::script::{parse, Call, Edit, Line};
 use std::io;
 use std::path::Path;
+
+/// One script in so many makes other steps before the drive at its end.
+const OTHER_STEPS: u64 = 3;
 
 /// Writes scripts, one after the other.
 pub struct Scripts<'a> {
@@ -55,7 +58,11 @@ impl Scripts<'_> {
         damage::file(random, &network, &mut damaged);
         std::fs::write(self.folder.join(format!("lane{number}.bin")), &intact)?;
         std::fs::write(self.folder.join(format!("bad{number}.bin")), &damaged)?;
-        let (ending, input) = limit::case(&mut self.limits);
+        let has_other_steps = number % OTHER_STEPS == 0;
+        let (ending, input) = match has_other_steps {
+            true => limit::case_with_any_input(&mut self.limits, 8),
+            false => limit::case(&mut self.limits),
+        };
         let file = file::bytes_of(&ending);
         std::fs::write(self.folder.join(format!("limit{number}.bin")), file)?;
         let mut script = Script {
@@ -68,7 +75,7 @@ impl Scripts<'_> {
         };
         script.write()?;
         script.random = &mut self.limits;
-        script.limit(&ending, &input)?;
+        script.limit(&ending, &input, has_other_steps)?;
         Ok(script.text)
     }
 
@@ -381,20 +388,18 @@ impl<'a> Script<'a> {
         Ok(())
     }
 
-    /// A fresh lane with all input fed and closed, as many picks as a drive of it
-    /// can need or more, and then a pick of each process.
-    fn limit(&mut self, network: &Network, input: &[Vec<i32>]) -> io::Result<()> {
-        let limit = Limit::of(network, input).expect("a case of the limit");
+    /// A fresh lane with all input fed and closed, in some scripts after other
+    /// steps too, as many picks as a drive of it can need or more, and then a pick
+    /// of each process.
+    fn limit(&mut self, network: &Network, input: &[Vec<i32>], other: bool) -> io::Result<()> {
         self.say(&format!("lane limit{}.bin", self.number))?;
-        for channel in fed(network).into_iter().map(usize::from) {
-            for value in &input[channel] {
-                let lent = self.random.one(&["", "", "lent-"]);
-                self.say(&format!("{lent}feed {channel} {value}"))?;
-            }
-            self.say(&format!("close {channel}"))?;
-        }
-        let cells = self.replay.state.cells[..CELLS].try_into().expect("the cells of a drive");
-        let course = limit.course(self.lane(), cells);
+        let cells = Box::new(self.replay.state.cells[..CELLS].try_into().expect("all cells"));
+        let of = if other { Limit::with_any_input } else { Limit::of };
+        let limit = of(network, input).expect("a case of the limit");
+        let board =
+            if other { limit.other_steps(self.random, cells, 30) } else { limit.lane(cells) };
+        self.say_all(&board)?;
+        let course = limit.course(&board);
         let Driven { picks: made, enlarged, .. } = course.settled();
         let more = limit.picks() + self.random.between(1, 100) as u64;
         let picks = self.random.one(&[limit.picks(), limit.picks(), more, u64::MAX]);
@@ -404,7 +409,18 @@ impl<'a> Script<'a> {
         for process in 0..network.processes {
             assert_eq!(self.answer(&format!("pick {process}"))?, ": ended");
         }
-        self.met.limit(&limit, &course, picks);
+        self.met.limit(&limit, &board, &course, picks);
+        Ok(())
+    }
+
+    /// Makes the calls of a board.
+    fn say_all(&mut self, board: &Board) -> io::Result<()> {
+        for line in &board.script {
+            let can_be_lent = ["pick", "feed", "take"].iter().any(|word| line.starts_with(word));
+            let lent = if can_be_lent { self.random.one(&["", "", "lent-"]) } else { "" };
+            self.say(&format!("{lent}{line}"))?;
+        }
+        assert!(*self.lane() == board.lane && self.replay.state.cells[..CELLS] == board.cells[..]);
         Ok(())
     }
 

@@ -3,9 +3,10 @@
 
 mod common;
 use common::*;
+use reference::board::Board;
 use reference::gen::fed;
 use reference::lane::{Cells, Lane, Wait, CELLS};
-use reference::limit::{case, Course, Limit};
+use reference::limit::{case, case_with_any_input, Course, Limit};
 use reference::network::{code, Instruction, Network, Record};
 use reference::random::Random;
 use reference::schedule::{drive, Driven, End};
@@ -13,14 +14,13 @@ use std::collections::BTreeMap;
 
 /// Holds drives with the limit, with some picks more and with the most of all to
 /// the rounds made one by one, and sees that one pick less than these is spent.
-fn tried(limit: &Limit, mut cells: Box<Cells>, more: u64) -> Course {
-    let lane = limit.lane(&mut cells);
-    let course = limit.course(&lane, &cells);
+fn tried(limit: &Limit, board: &Board, more: u64) -> Course {
+    let course = limit.course(board);
     for picks in [limit.picks(), limit.picks() + more, u64::MAX] {
-        course.drive(&lane, &cells, picks);
+        course.drive(board, picks);
     }
     let Driven { picks, .. } = course.settled();
-    assert_eq!(driven(&lane, &cells, picks - 1).0.end, End::Spent);
+    assert_eq!(driven(&board.lane, &board.cells, picks - 1).0.end, End::Spent);
     course
 }
 
@@ -40,7 +40,7 @@ fn settled(picks: u64, enlarged: u64) -> Driven {
 fn figures(network: &Network, input: &[Vec<i32>]) -> Option<[u64; 5]> {
     assert!(network.fits());
     let limit = Limit::of(network, input)?;
-    let course = tried(&limit, cells(), 1);
+    let course = tried(&limit, &limit.lane(cells()), 1);
     Some([limit.moves, limit.sent, limit.picks(), course.rounds, course.enlarged])
 }
 
@@ -165,12 +165,36 @@ fn input_that_is_not_all_fed_and_closed() {
     assert_eq!(figures(&network, &input), Some([10, 2, 13, 11, 0]));
     // Left open: it settles, but the process has not ended.
     let limit = Limit::of(&network, &input).unwrap();
-    let mut cells = cells();
-    let mut lane = limit.lane(&mut cells);
+    let Board { mut lane, cells, .. } = limit.lane(cells());
     lane.channels[0].closed = false;
     let (answer, lane) = driven(&lane, &cells, limit.picks());
     assert_eq!(answer, settled(9, 0));
     assert_eq!(lane.wait(0), Some(Wait::Empty(0)));
+}
+
+#[test]
+fn steps_before_are_taken_off() {
+    let network = Network::of(&[vec![STOP]], &[channel(0, 0, 1)]);
+    let input = [Vec::new()];
+    let limit = Limit::of(&network, &input).unwrap();
+    let mut board = limit.lane(cells());
+    assert!(board.pick(0));
+    assert_eq!((limit.rounds(), limit.rounds_left(&board)), (2, 1));
+    assert_eq!(tried(&limit, &board, 1).rounds, 1);
+}
+
+#[test]
+fn input_that_is_fed_bit_by_bit() {
+    let mut network = sample();
+    network.records[1].capacity = 2;
+    let input = [vec![5, -3], Vec::new()];
+    assert!(Limit::of(&network, &input).is_none());
+    let limit = Limit::with_any_input(&network, &input).unwrap();
+    let mut board = Board::new(&network, &input, cells());
+    assert_eq!([board.feed(0), board.feed(0), board.close(0)], [true, false, false]);
+    assert_eq!([board.pick(0), board.feed(0), board.close(0)], [true; 3]);
+    // N + G + 1 = 13, and one move was made before.
+    assert_eq!((limit.rounds_left(&board), tried(&limit, &board, 1).rounds), (12, 10));
 }
 
 #[test]
@@ -189,7 +213,7 @@ fn random_lanes() {
         let (network, input) = case(random);
         let limit = Limit::of(&network, &input).unwrap();
         let cells = Box::new([random.bits() as i32; CELLS]);
-        let course = tried(&limit, cells, random.between(1, 1_000) as u64);
+        let course = tried(&limit, &limit.lane(cells), random.between(1, 1_000) as u64);
         // The limit has room to spare. After an enlargement a sender moves, and
         // after a relief that was refused a round without a move is the last one:
         // so all but the last move. And a first message needs no enlargement.
@@ -214,4 +238,44 @@ fn random_lanes() {
     }
     println!("{met:?}, {grown} enlargements at most");
     assert!(met.values().all(|&count| count > 50) && grown > 100, "{met:?} {grown}");
+}
+
+#[test]
+fn random_lanes_after_other_steps() {
+    let random = &mut Random::new(12);
+    let mut met: BTreeMap<&str, u64> = BTreeMap::new();
+    for _ in 0..3_000 {
+        let longest = random.one(&[12, 12, 12, 256]);
+        let (network, input) = case_with_any_input(random, longest);
+        let limit = Limit::with_any_input(&network, &input).unwrap();
+        let cells = Box::new([random.bits() as i32; CELLS]);
+        let board = limit.other_steps(random, cells, 150);
+        let course = tried(&limit, &board, random.between(1, 1_000) as u64);
+        // Only in its first round can it find a ring stuck. An enlargement then is one
+        // that was not made before: so just lanes that send nothing make all rounds.
+        let finds_stuck = course.rounds == course.busy + 2;
+        assert!(finds_stuck || course.rounds == course.busy + 1);
+        assert!(board.enlarged + course.enlarged < limit.sent.max(1));
+        let makes_all = course.rounds == limit.rounds_left(&board);
+        assert!(!makes_all || limit.sent == 0);
+        let took = board.taken.iter().any(|taken| !taken.is_empty());
+        let is_long = |&channel: &u8| input[usize::from(channel)].len() > 100;
+        let cases = [
+            ("moves before", board.moves > 0),
+            ("all moves before", board.moves == limit.moves),
+            ("enlarged before", board.enlarged > 0),
+            ("enlarged before, and in the drive", board.enlarged > 0 && course.enlarged > 0),
+            ("a ring stuck before", finds_stuck),
+            ("took before", took),
+            ("input longer than its channel", limit.has_long_input()),
+            ("an input of more than 100", fed(&network).iter().any(is_long)),
+            ("refused before", board.refused.iter().sum::<u64>() > 0),
+            ("all N + G + 1 rounds", makes_all),
+        ];
+        for (name, is_so) in cases {
+            *met.entry(name).or_default() += u64::from(is_so);
+        }
+    }
+    println!("{met:?}");
+    assert!(met.values().all(|&count| count > 50), "{met:?}");
 }
