@@ -9,6 +9,7 @@ use native.Mathlib.Omega.{arith}
 use lib.Dec.{eqb}
 use lib.ListN.{replicate}
 use lib.IntN.{ℤ, pos}
+use Rattle.base.specs.Tests.{inTurn}
 use Rattle.network.specs.declared.Network.{Network}
 use Rattle.network.specs.Rules.{passes}
 use Rattle.network.proofs.Unused.{passes-by}
@@ -74,7 +75,7 @@ stops-in : AllIn stops (λ c. []) [] (board stops cells)
 stops-in = record { fedAll = λ c o. refl; closedAll = λ c o. absurd (none c o) }
 
 stops-finished : Finishes stops (plainAfter (withoutCapacities stops) (λ c. []) 1) 1 0
-unfolding plain
+unfolding plain inTurn
 stops-finished = finishes-by stops (plainAfter (withoutCapacities stops) (λ c. []) 1) 1 0 refl
 
 pub stops-limited : Limited stops (λ c. []) [] (board stops cells) (plainAfter (withoutCapacities stops) (λ c. []) 1) 1 0 2
@@ -124,7 +125,7 @@ unfolding playing
 eats-in = all-in-by fed fresh eats-fit eats input (only-first eats refl (WholeOn fed fresh eats-fit eats input) (refl, refl))
 
 eats-finished : Finishes eats (plainAfter (withoutCapacities eats) input 6) 6 0
-unfolding plain
+unfolding plain inTurn
 eats-finished = finishes-by eats (plainAfter (withoutCapacities eats) input 6) 6 0 refl
 
 pub eats-limited : Limited eats input (calls fed) fresh (plainAfter (withoutCapacities eats) input 6) 6 0 7

@@ -3,13 +3,14 @@
 use mathlib.Core.Path.{_≡_, refl, ap, _∙_}
 use mathlib.Core.List.{List}
 use mathlib.Core.Bool.{Bool, true, false, not, _&&_, _||_, false≢true}
-use Prim.Native.Nat.{ℕ, zero, suc, _/_, _≤_, _<_}
-use native.Mathlib.Decide.{ℕ-discrete}
+use Prim.Native.Nat.{ℕ, _/_, _≤_, _<_}
 use native.Mathlib.Omega.{arith}
 use borrow.Author.Tests.{eqb-true, leb-true, eq-eqb}
 use lib.Dec.{eqb, leb}
 use lib.ListN.{length}
-use Rattle.base.proofs.Conjunction.{both-true}
+use Rattle.base.specs.Tests.{firstBad, isGood}
+use Rattle.base.proofs.Tests.{each-true}
+use Rattle.base.proofs.Conjunction.{both-true, good-is}
 use Rattle.network.specs.declared.Network.{Network}
 use Rattle.network.specs.Rules.{receiverOf, capacityOf, outside}
 use Rattle.lane.specs.State.{World, isEnded}
@@ -27,16 +28,10 @@ use Rattle.picks_needed.specs.Theorem.{sentInside, Finishes}
 
 -- a test holds of each below k
 abbrev allBelow : (ℕ → Bool) → ℕ → Bool
-allBelow test zero = true
-allBelow test (suc k) = allBelow test k && test k
+allBelow test k = isGood (firstBad test 0 k)
 
 all-below : (test : ℕ → Bool) (k : ℕ) → allBelow test k ≡ true → (i : ℕ) → i < k → test i ≡ true
-all-below test zero e i l = absurd (omega arith)
-all-below test (suc k) e i l = go (ℕ-discrete i k) (both-true (allBelow test k) (test k) e) (all-below test k)
-  where
-    go : Dec (i ≡ k) → (allBelow test k ≡ true) × (test k ≡ true) → (allBelow test k ≡ true → (i : ℕ) → i < k → test i ≡ true) → test i ≡ true
-    go (yes q) b later = ap test q ∙ b .1
-    go (no q) b later = later (b .0) i (omega arith)
+all-below test k e i l = each-true test 0 k (good-is (firstBad test 0 k) e) i (omega arith) (omega arith)
 
 -- an output has room
 abbrev hasRoom : Network → Plain → ℕ → Bool

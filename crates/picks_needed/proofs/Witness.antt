@@ -9,6 +9,7 @@ use native.Mathlib.Omega.{arith}
 use lib.Dec.{eqb}
 use lib.ListN.{replicate}
 use lib.IntN.{ℤ, pos}
+use Rattle.base.specs.Tests.{inTurn}
 use Rattle.network.specs.declared.Network.{Network}
 use Rattle.network.specs.Rules.{passes}
 use Rattle.network.proofs.Unused.{passes-by}
@@ -84,7 +85,7 @@ abbrev end : Plain
 end = plainAfter (withoutCapacities lane) input 10
 
 finished : Finishes lane end 24 6
-unfolding plain
+unfolding plain inTurn
 finished = finishes-by lane end 24 6 refl
 
 -- ---- "Given P × (N + G + 1) picks": 93 are enough
