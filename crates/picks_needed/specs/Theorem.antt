@@ -55,8 +55,8 @@ pub record Limited (n : Network) (input : ℕ → List ℤ) (steps : List Step) 
   pub agrees : Agrees n input (steps ++ courseSteps (n .processes) rounds) w s
 
 -- "Take a fresh lane, all input fed and closed, whose plain order ends every process, .. Given P × (N + G + 1) picks, where 64 bits hold that, the
--- driver must ..": that many, and any more that 64 bits hold (ours). Steps of any kind may have been made before, so that an input longer than its
--- channel's capacity can be in, too (ours): of the lane, the request's words ask `AllIn` alone.
+-- driver must ..": that many, and any more that 64 bits hold (ours). "All input fed and closed" is `AllIn`, of whatever steps were made on the fresh
+-- lane: feeds and closings alone, or others among them, so that an input longer than its channel's capacity can be in too (ours).
 abbrev pub PicksNeeded : Type 0
 PicksNeeded =
     (f : List ℕ) (n : Network) → ReadAs f n → (cells : List ℤ) → length cells ≡ 8192
@@ -65,7 +65,8 @@ PicksNeeded =
     → (budget : ℕ) → n .processes * (N + G + 1) ≤ budget → budget < 18446744073709551616
     → Limited n input steps (board n cells) (plainAfter (withoutCapacities n) input rounds) N G budget
 
--- ---- why: whatever is done to such a lane, in whatever order it is picked, no more moves and enlargements come (ours)
+-- ---- why: whatever is done to such a lane, in whatever order it is picked, no more moves and enlargements come (ours). A process's moves stay at
+-- their largest, so N says how many there are only below that; under the limit, which 64 bits hold, it is.
 pub record Within (N G : ℕ) (steps : List Step) (w : World) : Type 0 where
   pub moves : movedIn steps w ≤ N
   pub enlargements : grownIn steps w ≤ G
