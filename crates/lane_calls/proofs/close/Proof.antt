@@ -2,7 +2,7 @@
 -- Assumes nothing.
 use mathlib.Core.Path.{sym, _∙_}
 use borrow.Author.Needs.{needs}
-use Rattle.lane_calls.proofs.TestLaws.{opened-says, close-opened, below}
+use Rattle.call_parts.proofs.TestLaws.{opened-says, close-opened, below}
 use Rattle.lane_calls.proofs.close.Statement.{statement}
 use Rattle.lane_calls.proofs.close.Tie as tie
 

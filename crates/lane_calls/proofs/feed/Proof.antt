@@ -3,7 +3,7 @@
 use mathlib.Core.Path.{sym, _∙_}
 use borrow.Author.Needs.{needs}
 use mir.Facts.{toZ-ofZ}
-use Rattle.lane_calls.proofs.TestLaws.{opened-says, feed-opened}
+use Rattle.call_parts.proofs.TestLaws.{opened-says, feed-opened}
 use Rattle.lane_calls.proofs.feed.Statement.{statement}
 use Rattle.lane_calls.proofs.feed.Tie as tie
 

@@ -6,7 +6,7 @@ use native.Mathlib.Omega.{arith}
 use borrow.Author.Tests.{eq-eqb, ne-eqb}
 use mir.Facts.{toZ-ofZ}
 use Rattle.lent_calls.proofs.There.{feedable}
-use Rattle.lane_calls.proofs.TestLaws.{below}
+use Rattle.call_parts.proofs.TestLaws.{below}
 use Rattle.lane_calls.proofs.feed_there.Statement.{statement}
 use Rattle.lane_calls.proofs.feed_there.Tie as tie
 

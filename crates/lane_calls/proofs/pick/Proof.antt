@@ -2,7 +2,7 @@
 -- Assumes nothing.
 use mathlib.Core.Path.{sym, _∙_}
 use borrow.Author.Needs.{needs}
-use Rattle.lane_calls.proofs.TestLaws.{opened-says, pick-opened}
+use Rattle.call_parts.proofs.TestLaws.{opened-says, pick-opened}
 use Rattle.lane_calls.proofs.pick.Statement.{statement}
 use Rattle.lane_calls.proofs.pick.Tie as tie
 

@@ -6,7 +6,7 @@ use borrow.Author.Needs.{needs}
 use Rattle.lane.specs.State.{world}
 use Rattle.lane.proofs.SoundLaws.{sound-says}
 use Rattle.lane_parts.proofs.Next.{Next, next-of, instruction-is}
-use Rattle.lane_calls.proofs.TestLaws.{process-below}
+use Rattle.call_parts.proofs.TestLaws.{process-below}
 use Rattle.lane_calls.proofs.Answers.{picked-is}
 use Rattle.lane_calls.proofs.pick_there.Statement.{statement}
 use Rattle.lane_calls.proofs.pick_there.Tie as tie

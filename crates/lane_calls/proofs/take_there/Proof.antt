@@ -5,7 +5,7 @@ use mathlib.Core.Path.{sym}
 use native.Mathlib.Omega.{arith}
 use borrow.Author.Tests.{eq-eqb, ne-eqb}
 use Rattle.lent_calls.proofs.There.{takeable}
-use Rattle.lane_calls.proofs.TestLaws.{below}
+use Rattle.call_parts.proofs.TestLaws.{below}
 use Rattle.lane_calls.proofs.take_there.Statement.{statement}
 use Rattle.lane_calls.proofs.take_there.Tie as tie
 

@@ -3,7 +3,7 @@
 use mathlib.Core.Path.{_≡_, refl, sym, subst}
 use mathlib.Core.Bool.{Bool, true, false, not}
 use Prim.Native.Nat.{ℕ, _<_}
-use borrow.Author.Tests.{ltb-true, eqb-true, not-false}
+use borrow.Author.Tests.{ltb-true, eqb-true, not-false, eq-eqb, lt-ltb}
 use native.Mathlib.Omega.{arith}
 use lib.Dec.{T, eqb, ltb}
 use lib.IntN.{ℤ}
@@ -44,11 +44,15 @@ opened-says cells l number count e =
     let d = pass-with (not (ltb number count)) Absent _ (b .1) in
     record { long = eqb-true _ _ (not-false _ (a .0)); sound = not-false _ (b .0); there = ltb-true _ _ (not-false _ (d .0)) }
 
-decide-opened : (cells : ℕ) (l : Lane) (number count : ℕ) (w : World) (next : Called)
+pub decide-opened : (cells : ℕ) (l : Lane) (number count : ℕ) (w : World) (next : Called)
     → decided (opened cells l number count) w next ≡ refuse (not (eqb cells 8192)) 15 w (refuse (not (soundOf l)) 16 w (refuse (not (ltb number count)) 8 w next))
 unfolding opened
 decide-opened cells l number count w next =
     rw (decide-with (not (eqb cells 8192)) Buffer _ w next, decide-with (not (soundOf l)) Unsound _ w next, decide-with (not (ltb number count)) Absent _ w next)
+
+pub says-opened : {cells : ℕ} {l : Lane} {number count : ℕ} → Opened cells l number count → opened cells l number count ≡ tested.Passed
+unfolding opened
+says-opened {cells} {l} {number} {count} o = rw (eq-eqb cells 8192 (o .long), o .sound, lt-ltb number count (o .there))
 
 -- ---- the calls after their first tests
 pub pick-opened : (p : ℕ) (w : World) → pickOf p w ≡ decided (opened (length (w .cells)) (w .lane) p (w .lane .network .processes)) w (picked p w)

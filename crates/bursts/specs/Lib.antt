@@ -1,0 +1,3 @@
+pub mod Bursts
+pub mod Singly
+pub mod Pouring
