@@ -1,6 +1,6 @@
 // What is measured: the block check, reading a file and the soundness test on the largest lane, the test on that lane with all processes ended and on a
-// little lane, and a bench of 3,000 pick bytes, each many times. An argument names one of them, `check`, `read`, `sound`, `ended`, `little` or `bench`, by
-// its first letter, for a count of its instructions; without one all are made. Prints what they answered.
+// little lane, bursts of 256 values and of none, and a bench of 3,000 pick bytes, each many times. An argument names one of them, `check`, `read`, `sound`,
+// `ended`, `little`, `values`, `tests` or `bench`, by its first letter, for a count of its instructions; without one all are made. Prints what they answered.
 use bench::BenchAnswer;
 use lane::Lane;
 use lane::Standing;
@@ -83,6 +83,54 @@ fn sounds(lane: Lane) -> u64 {
     count
 }
 
+// The lane with room for 256 messages in channel 0, the first of which goes to that place.
+fn roomy(lane: Lane, oldest: u8) -> Lane {
+    let mut l = lane;
+    l.channels[0] = Channel {
+        capacity: 256,
+        oldest: oldest as u16,
+        held: 0,
+        closed: false,
+    };
+    l
+}
+
+// A value that is not zero.
+fn value_of(byte: u8) -> i32 {
+    if byte == 0 {
+        return 1;
+    }
+    2
+}
+
+// Values that the compiler does not know: by the first bytes of a file.
+fn values_of(file: [u8; 4608]) -> [i32; 256] {
+    let mut values = [0i32; 256];
+    let mut k: usize = 0;
+    while k < 256 {
+        values[k] = value_of(file[k]);
+        k += 1;
+    }
+    values
+}
+
+// How many values went in, in 100 bursts of them into channel 0 of the same lane; and one more each time where the cell that is looked at is not zero, so
+// that the cells are not stored to in vain.
+fn deliveries(lane: Lane, values: &[i32]) -> u64 {
+    let mut cells = [0i32; 8192];
+    let mut sum: u64 = 0;
+    let mut k: u8 = 0;
+    while k < 100 {
+        let delivered = bursts::burst(lane, &mut cells, 0, values);
+        sum = std::num::wrapping_add_u64(sum, delivered.fed as u64);
+        if cells[base::wide(k)] != 0 {
+            sum = std::num::wrapping_add_u64(sum, 1);
+        }
+        k += 1;
+    }
+    sum
+}
+
 // The length of a listing, 0 of a refusal.
 fn length_of(answer: BenchAnswer) -> u64 {
     match answer {
@@ -150,6 +198,14 @@ fn main() {
     }
     if what == 0 || what == 108 {
         print(b"little", sounds(little));
+    }
+    if what == 0 || what == 118 {
+        let values = values_of(file);
+        print(b"values", deliveries(roomy(largest, what), &values));
+    }
+    if what == 0 || what == 116 {
+        let values = [0i32; 0];
+        print(b"tests", deliveries(roomy(largest, what), &values));
     }
     if what == 0 || what == 98 {
         print(b"bench", play());
