@@ -11,33 +11,35 @@ use lib.IntN.{ℤ, pos}
 use lib.ListN.{length, getD, take}
 use Rattle.lane.specs.State.{World, channelOf}
 use Rattle.lane.specs.Calls.{Told, accepted, refused, called, cellsWrong, unsound, noChannelThere, senderInside, isClosed, receiverEnded, feedOf}
-use Rattle.bursts.specs.Bursts.{Delivery, feedNone, burstOf}
+use Rattle.bursts.specs.Bursts.{Delivery, delivery, feedNone, burstOf}
 
 -- the lane and cells after single feeds of all values of a list, refused ones too
 unfoldable pub singly : ℕ → List ℤ → World → World
 singly c [] w = w
 singly c (v ∷ vs) w = singly c vs (feedOf c v w .world)
 
--- a burst's answer to a list of values
+-- what a burst answers and leaves, of values that are fed one by one
 pub record AsSingly (c : ℕ) (vs : List ℤ) (w : World) (b : Delivery) : Type 0 where
   pub within : b .fed ≤ length vs
-  -- "as single feeds up to that place would"
+  -- "exactly as single feeds up to that place would"
   pub left : b .world ≡ singly c (take (b .fed) vs) w
-  -- those went in
+  -- each of them went in
   pub went : (i : ℕ) → i < b .fed → feedOf c (getD vs i (pos 0)) (singly c (take i vs) w) .answer ≡ accepted
   -- "if it stopped early, the refusal of the first value that did not"; "the value refused changed nothing"
   pub early : b .fed < length vs → (k : ℕ) × (b .answer ≡ refused k) × (feedOf c (getD vs (b .fed) (pos 0)) (b .world) ≡ called (refused k) (b .world))
-  -- all went in
-  pub whole : 0 < length vs → b .fed ≡ length vs → b .answer ≡ accepted
-  -- "An empty list .."
-  pub none : length vs ≡ 0 → b .answer ≡ feedNone c w .answer
+  -- else none was refused
+  pub whole : b .fed ≡ length vs → b .answer ≡ accepted
 
--- a burst is so, and nothing else is: whatever the lane, the cells and the values
+-- a burst of one value or more is so, and nothing else is: whatever the lane, the cells, the channel and the values
 abbrev pub BurstsAreSingleFeeds : Type 0
-BurstsAreSingleFeeds = (c : ℕ) (vs : List ℤ) (w : World) → AsSingly c vs w (burstOf c vs w)
+BurstsAreSingleFeeds = (c : ℕ) (v : ℤ) (vs : List ℤ) (w : World) → AsSingly c (v ∷ vs) w (burstOf c (v ∷ vs) w)
 
 abbrev pub NothingElse : Type 0
-NothingElse = (c : ℕ) (vs : List ℤ) (w : World) (b : Delivery) → AsSingly c vs w b → b ≡ burstOf c vs w
+NothingElse = (c : ℕ) (v : ℤ) (vs : List ℤ) (w : World) (b : Delivery) → AsSingly c (v ∷ vs) w b → b ≡ burstOf c (v ∷ vs) w
+
+-- one of none "feeds nothing", refused or not
+abbrev pub EmptyFeedsNothing : Type 0
+EmptyFeedsNothing = (c : ℕ) (w : World) → burstOf c [] w ≡ delivery 0 (feedNone c w .answer) w
 
 -- the values after the first that is refused would be refused too: a burst leaves what single feeds of all its values leave
 abbrev pub RestRefused : Type 0
