@@ -10,7 +10,7 @@ use Rattle.lane.proofs.Shape.{Shaped}
 use Rattle.lane.proofs.CallLaws.{Preserves}
 use Rattle.relief.proofs.Enlarged.{kept-both}
 use Rattle.kahn.specs.Calls.{Call, apply, fedBy}
-use Rattle.kahn.specs.Steps.{Step, call, innerRelief, calls, afterStep, fedAt, after, fed, movedIn, grownIn}
+use Rattle.kahn.specs.Steps.{Step, call, innerRelief, calls, afterStep, fedAt, takenAt, sentAt, after, fed, taken, sent, movedIn, grownIn}
 use Rattle.kahn.proofs.Events.{apply-kept}
 use Rattle.kahn.proofs.InnerRelief.{inner-kept}
 
@@ -19,11 +19,25 @@ pub after-append : (xs ys : List Step) (w : World) → after (xs ++ ys) w ≡ af
 after-append [] ys w = refl
 after-append (x ∷ xs) ys w = after-append xs ys (afterStep x w)
 
+-- what each step adds to a list, on some channel
+module _ (adds : Step → World → List ℤ) (over : List Step → World → List ℤ) (none : (w : World) → over [] w ≡ [])
+    (next : (s : Step) (ss : List Step) (w : World) → over (s ∷ ss) w ≡ adds s w ++ over ss (afterStep s w)) where
+  joined : (xs ys : List Step) (w : World) → over (xs ++ ys) w ≡ over xs w ++ over ys (after xs w)
+  joined [] ys w = ap (λ (l : List ℤ). l ++ over ys w) (sym (none w))
+  joined (x ∷ xs) ys w =
+      next x (xs ++ ys) w
+      ∙ ap (λ (l : List ℤ). adds x w ++ l) (joined xs ys (afterStep x w))
+      ∙ sym (append-assoc (adds x w) (over xs (afterStep x w)) (over ys (after xs (afterStep x w))))
+      ∙ ap (λ (l : List ℤ). l ++ over ys (after xs (afterStep x w))) (sym (next x xs w))
+
 pub fed-append : (xs ys : List Step) (w : World) (c : ℕ) → fed (xs ++ ys) w c ≡ fed xs w c ++ fed ys (after xs w) c
-fed-append [] ys w c = refl
-fed-append (x ∷ xs) ys w c =
-    ap (λ (l : List ℤ). fedAt x w c ++ l) (fed-append xs ys (afterStep x w) c)
-    ∙ sym (append-assoc (fedAt x w c) (fed xs (afterStep x w) c) (fed ys (after xs (afterStep x w)) c))
+fed-append xs ys w c = joined (λ s w. fedAt s w c) (λ ss w. fed ss w c) (λ w. refl) (λ s ss w. refl) xs ys w
+
+pub taken-append : (xs ys : List Step) (w : World) (c : ℕ) → taken (xs ++ ys) w c ≡ taken xs w c ++ taken ys (after xs w) c
+taken-append xs ys w c = joined (λ s w. takenAt s w c) (λ ss w. taken ss w c) (λ w. refl) (λ s ss w. refl) xs ys w
+
+pub sent-append : (xs ys : List Step) (w : World) (c : ℕ) → sent (xs ++ ys) w c ≡ sent xs w c ++ sent ys (after xs w) c
+sent-append xs ys w c = joined (λ s w. sentAt s w c) (λ ss w. sent ss w c) (λ w. refl) (λ s ss w. refl) xs ys w
 
 pub moved-append : (xs ys : List Step) (w : World) → movedIn (xs ++ ys) w ≡ movedIn xs w + movedIn ys (after xs w)
 moved-append [] ys w = omega arith
