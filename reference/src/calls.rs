@@ -1,5 +1,6 @@
-//! The calls on a lane: pick, feed, close and take. A refused call leaves lane
-//! and cells as they came.
+//! The calls on a lane: pick, feed, a burst of feeds, close and take. A refused
+//! call leaves lane and cells as they came; of a burst that is said of the value
+//! refused.
 
 use crate::lane::{Cells, Condition, Lane};
 use crate::network::OUTSIDE;
@@ -21,6 +22,15 @@ pub enum Taken {
     End,
 }
 
+/// The answer of a burst.
+#[derive(Clone, Copy, PartialEq, Eq, Debug)]
+pub struct Burst {
+    /// How many values went in.
+    pub fed: usize,
+    /// The refusal of the first value that did not, or of an empty list.
+    pub refused: Option<Refusal>,
+}
+
 /// Does one instruction of one process.
 pub fn pick(lane: &mut Lane, cells: &mut [i32], process: usize) -> Result<Answer, Refusal> {
     let cells = cells.try_into().map_err(|_| Refusal::Buffer)?;
@@ -33,10 +43,17 @@ pub fn pick(lane: &mut Lane, cells: &mut [i32], process: usize) -> Result<Answer
 
 /// Sends a value on a channel from outside.
 pub fn feed(lane: &mut Lane, cells: &mut [i32], channel: usize, value: i32) -> Result<(), Refusal> {
-    let cells = cells.try_into().map_err(|_| Refusal::Buffer)?;
-    test_sound(lane)?;
-    let channel = channel_from_outside(lane, channel)?;
+    let (cells, channel) = test_feed(lane, cells, channel)?;
     lane.put_outside(cells, channel, value)
+}
+
+/// Sends values on a channel from outside, one after the other, until one is
+/// refused. Of an empty list only what does not hang on full or closed is tested.
+pub fn burst(lane: &mut Lane, cells: &mut [i32], channel: usize, values: &[i32]) -> Burst {
+    match test_feed(lane, cells, channel) {
+        Ok((cells, channel)) => lane.put_all_outside(cells, channel, values),
+        Err(refusal) => Burst { fed: 0, refused: Some(refusal) },
+    }
 }
 
 /// Closes a channel from outside.
@@ -59,6 +76,17 @@ pub fn take(lane: &mut Lane, cells: &[i32], channel: usize) -> Result<Taken, Ref
 
 pub(crate) fn test_sound(lane: &Lane) -> Result<(), Refusal> {
     lane.is_sound().then_some(()).ok_or(Refusal::Unsound)
+}
+
+/// The tests of a feed that come before closed and full.
+fn test_feed<'a>(
+    lane: &Lane,
+    cells: &'a mut [i32],
+    channel: usize,
+) -> Result<(&'a mut Cells, u8), Refusal> {
+    let cells = cells.try_into().map_err(|_| Refusal::Buffer)?;
+    test_sound(lane)?;
+    Ok((cells, channel_from_outside(lane, channel)?))
 }
 
 fn channel_from_outside(lane: &Lane, channel: usize) -> Result<u8, Refusal> {
@@ -171,6 +199,15 @@ impl Lane {
         }
         self.count_call();
         Ok(())
+    }
+
+    fn put_all_outside(&mut self, cells: &mut Cells, number: u8, values: &[i32]) -> Burst {
+        for (fed, &value) in values.iter().enumerate() {
+            if let Err(refusal) = self.put_outside(cells, number, value) {
+                return Burst { fed, refused: Some(refusal) };
+            }
+        }
+        Burst { fed: values.len(), refused: None }
     }
 
     pub(crate) fn close_outside(&mut self, number: u8) -> Result<(), Refusal> {
