@@ -11,7 +11,7 @@
 //! | `network`  | processes, channels and code, and the rules they must meet |
 //! | `file`     | reading and writing lane files                             |
 //! | `lane`     | a network with its state, and what makes it sound          |
-//! | `calls`    | pick, feed, close and take                                 |
+//! | `calls`    | pick, feed, burst, close and take                          |
 //! | `relief`   | rings of waiting processes                                 |
 //! | `schedule` | a run and the driver                                       |
 //! | `bench`    | the bench and its listing                                  |
@@ -29,10 +29,12 @@
 //! | `scripts`  | random scripts of calls                                    |
 //! | `clauses`  | edits that make a lane unsound, for each clause of that    |
 //! | `odd`      | edits after which it is sound, but odd                     |
+//! | `bursts`   | bursts for scripts, and how much of one must go in         |
 //! | `met`      | what scripts have met                                      |
 
 pub mod bench;
 pub mod board;
+pub mod bursts;
 pub mod calls;
 pub mod check;
 pub mod clauses;

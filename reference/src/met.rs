@@ -10,7 +10,7 @@ use crate::limit::{Course, Limit};
 use crate::network::{CAPACITY, CHANNELS, OUTSIDE, PROCESSES};
 use crate::refusal::Refusal;
 use crate::relief::Ring;
-use crate::script::{Call, Line};
+use crate::script::{Call, Line, VALUES};
 use std::collections::BTreeMap;
 use std::fmt;
 
@@ -30,12 +30,14 @@ pub struct Met {
 }
 
 /// The answers that must be met.
-const ANSWERS: [(&str, &[&str]); 14] = [
+const ANSWERS: [(&str, &[&str]); 16] = [
     ("pick", PICK),
     ("lent-pick", PICK),
     ("with", &["moved", "waiting-empty", "waiting-full", "ended", "refused 15", "refused 16"]),
     ("feed", FEED),
     ("lent-feed", FEED),
+    ("burst", FEED),
+    (EMPTY_BURST, &["accepted", "refused 8", "refused 9", "refused 15", "refused 16"]),
     ("close", &["accepted", "refused 8", "refused 9", "refused 11", "refused 16"]),
     ("take", TAKE),
     ("lent-take", TAKE),
@@ -46,6 +48,8 @@ const ANSWERS: [(&str, &[&str]); 14] = [
     ("read", &["refused 6", "refused 7"]),
     ("write", &["written", "refused 15", "refused 16"]),
 ];
+/// A burst of no values, which stands for itself among the answers.
+const EMPTY_BURST: &str = "empty burst";
 const PICK: &[&str] =
     &["moved", "waiting-empty", "waiting-full", "ended", "refused 8", "refused 15", "refused 16"];
 const FEED: &[&str] =
@@ -67,14 +71,33 @@ pub struct Played<'a> {
 }
 
 impl Played<'_> {
-    /// The answer's first word, with a refusal's number.
+    /// What the line is counted under.
+    fn word(&self) -> &str {
+        match &self.line {
+            Line::Call(Call::Burst(_, values)) if values.is_empty() => EMPTY_BURST,
+            _ => self.text.split(' ').next().unwrap_or(""),
+        }
+    }
+
+    /// The answer's first word, with a refusal's number. Of a burst's answer, the
+    /// first word after the number of values that went in.
     fn answer(&self) -> String {
         let answer = self.printed.strip_prefix(": ").unwrap_or("");
         let mut words = answer.split([' ', ';']);
-        match words.next() {
+        let first = match words.next() {
+            Some("fed") => words.nth(1),
+            word => word,
+        };
+        match first {
             Some("refused") => format!("refused {}", words.next().unwrap_or("")),
             word => word.unwrap_or("").to_string(),
         }
+    }
+
+    /// How many values of a burst went in.
+    fn fed(&self) -> u64 {
+        let number = self.printed.strip_prefix(": fed ").and_then(|text| text.split(' ').next());
+        number.and_then(|text| text.parse().ok()).unwrap_or(0)
     }
 
     /// Whether the answer names such a number of enlargements that is not 0.
@@ -93,7 +116,7 @@ impl Met {
             return;
         }
         let answer = played.answer();
-        let word = played.text.split(' ').next().unwrap_or("");
+        let word = played.word();
         if let Some((word, _)) = ANSWERS.iter().find(|(other, _)| *other == word) {
             *self.answers.entry((word, answer.clone())).or_default() += 1;
         }
@@ -137,13 +160,18 @@ impl Met {
     fn order(&mut self, played: &Played, call: &Call, sound: bool, answer: &str) {
         let absent = match *call {
             Call::Pick(number) | Call::Feed(number, _) | Call::Close(number) => number >= CHANNELS,
-            Call::Take(number) => number >= CHANNELS,
+            Call::Take(number) | Call::Burst(number, _) => number >= CHANNELS,
             _ => false,
         };
         let cells = played.room == CELLS;
         self.meet("15 before 16", !cells && !sound && answer == "refused 15");
         self.meet("15 before 8", !cells && sound && absent && answer == "refused 15");
         self.meet("16 before 8", !sound && absent && answer == "refused 16");
+        if played.word() == EMPTY_BURST {
+            self.meet("empty burst: 15 before 16", !cells && !sound);
+            self.meet("empty burst: 15 before 8 or 9", !cells && sound && !is_fed(played, call));
+            self.meet("empty burst: 16 before 8", cells && !sound && absent);
+        }
         let no_cells = matches!(call, Call::Close(_) | Call::Relieve(_));
         self.meet("a call without cells, too few lent", !cells && sound && no_cells);
         let no_buffer = *call == Call::Relieve(0);
@@ -159,10 +187,12 @@ impl Met {
         let less = all().any(|(record, channel)| channel.capacity < record.capacity);
         self.meet("a capacity below the file's", less);
         let accepted = ["accepted", "value", "end", "enlarged"].contains(&answer);
-        self.meet("accepted at its largest", accepted && lane.accepted == u64::MAX);
+        let counts = accepted && played.word() != EMPTY_BURST;
+        self.meet("accepted at its largest", counts && lane.accepted == u64::MAX);
         match *call {
             Call::Pick(process) => self.pick(lane, process, answer),
             Call::Feed(channel, _) => self.feed(lane, channel, answer),
+            Call::Burst(channel, ref values) => self.burst(played, channel, values.len(), answer),
             Call::Close(channel) => {
                 let held = lane.channels.get(channel).is_some_and(|channel| channel.held > 0);
                 self.meet("close: messages held", held && answer == "accepted");
@@ -324,6 +354,63 @@ impl Met {
         self.meet("feed: laid past the capacity", accepted && !unheard && past);
     }
 
+    fn burst(&mut self, played: &Played, number: usize, length: usize, answer: &str) {
+        let lane = played.before;
+        let channels = lane.network.channels;
+        let cut = number > 255 && (number as u8) < channels;
+        self.meet("burst: 8 for a number past 255", cut && answer == "refused 8");
+        if number >= usize::from(channels) {
+            return;
+        }
+        let channel = lane.channels[number];
+        let unheard = lane.is_unheard(number as u8);
+        if length == 0 {
+            return self.empty_burst(channel, unheard, answer);
+        }
+        let (fed, accepted) = (played.fed(), answer == "accepted");
+        let full = answer == "refused 10";
+        self.meet("burst: of one, in", accepted && length == 1);
+        self.meet("burst: of more than one, all in", accepted && length > 1 && !unheard);
+        self.meet(
+            "burst: as many as find room",
+            accepted && played.after.channels[number].is_full(),
+        );
+        self.meet("burst: some in, then 10", full && fed > 0);
+        self.meet("burst: some in, several left, 10", full && fed > 0 && fed + 1 < length as u64);
+        self.meet("burst: none in, 10", full && fed == 0);
+        self.meet("burst: 256 in", fed == CAPACITY.into() && !unheard);
+        self.meet("burst: 512 values", length == VALUES);
+        self.meet("burst: 11 before 10", answer == "refused 11" && channel.is_full());
+        self.meet("burst: 9 on a closed one", answer == "refused 9" && channel.closed);
+        self.meet("burst: 9 on a full one", answer == "refused 9" && channel.is_full());
+        let more = accepted && unheard && length > channel.capacity.into();
+        self.meet("burst: more than the capacity to an ended receiver", more);
+        self.counts(lane.accepted, fed);
+        let first = u64::from(channel.oldest + channel.held);
+        let round = first < CAPACITY.into() && first + fed > CAPACITY.into();
+        self.meet("burst: laid round place 255", round && !unheard);
+    }
+
+    /// So many values of a burst were counted.
+    fn counts(&mut self, accepted: u64, fed: u64) {
+        let left = u64::MAX - accepted;
+        self.meet("burst: accepted at its largest", left == 0 && fed > 1);
+        self.meet("burst: accepted comes to its largest on the way", left > 0 && fed > left);
+    }
+
+    /// A burst of no values on a channel that is there.
+    fn empty_burst(&mut self, channel: Channel, unheard: bool, answer: &str) {
+        let (accepted, full) = (answer == "accepted", channel.is_full());
+        let ordinary = !channel.closed && !full && !unheard;
+        self.meet("empty burst: on an ordinary channel", accepted && ordinary);
+        self.meet("empty burst: on a full channel", accepted && full && !channel.closed);
+        self.meet("empty burst: on a closed channel", accepted && channel.closed && !full);
+        self.meet("empty burst: on one full and closed", accepted && full && channel.closed);
+        self.meet("empty burst: to an ended receiver", accepted && unheard);
+        let inside = answer == "refused 9";
+        self.meet("empty burst: 9 on a full or closed one", inside && (full || channel.closed));
+    }
+
     fn take(&mut self, lane: &Lane, number: usize, answer: &str) {
         let channels = lane.network.channels;
         let cut = number > 255 && (number as u8) < channels;
@@ -392,6 +479,13 @@ impl Met {
         let special = self.special.iter().map(|(name, &count)| (name.to_string(), count));
         self.picks.counts().into_iter().chain(special).collect()
     }
+}
+
+/// Whether a burst names a channel that is fed from outside.
+fn is_fed(played: &Played, call: &Call) -> bool {
+    let Call::Burst(number, _) = *call else { return false };
+    let record = played.before.network.used_records().get(number);
+    record.is_some_and(|record| record.sender == OUTSIDE)
 }
 
 /// A round of a drive and the relief after it.

@@ -14,8 +14,14 @@ pub fn edits(random: &mut Random, lane: &Lane) -> Vec<Edit> {
         2 => vec![cell(random, lane)],
         3 => vec![Edit::Accepted(count(random))],
         4..=7 => process(random, lane),
-        8..=11 => vec![channel(random, lane)],
-        12 | 13 => end(random, lane),
+        8..=11 => {
+            let number = random.below(usize::from(lane.network.channels));
+            vec![channel(random, lane, number)]
+        }
+        12 | 13 => {
+            let number = random.below(usize::from(lane.network.processes));
+            end(random, lane, number)
+        }
         14 => vec![own_capacity(random, lane)],
         15 => code_byte(random, lane).into_iter().collect(),
         16 | 17 => division(random, lane),
@@ -109,8 +115,7 @@ fn operands(random: &mut Random) -> (i32, i32) {
 }
 
 /// A channel in any state that its two ends allow.
-fn channel(random: &mut Random, lane: &Lane) -> Edit {
-    let number = random.below(usize::from(lane.network.channels));
+pub fn channel(random: &mut Random, lane: &Lane, number: usize) -> Edit {
     let record = lane.network.records[number];
     let any = random.between(1, CAPACITY.into()) as u16;
     let capacity = random.one(&[1, 2, 3, record.capacity, 255, 256, 256, any]);
@@ -126,7 +131,7 @@ fn channel(random: &mut Random, lane: &Lane) -> Edit {
 }
 
 /// The place as it is, near the last one, or any.
-fn oldest(random: &mut Random, lane: &Lane, channel: usize) -> u16 {
+pub fn oldest(random: &mut Random, lane: &Lane, channel: usize) -> u16 {
     let any = random.below(CAPACITY.into()) as u16;
     random.one(&[lane.channels[channel].oldest, 0, 255, 255, 254, 250, any])
 }
@@ -137,8 +142,7 @@ fn ended(lane: &Lane, end: u8) -> bool {
 
 /// A process ends by hand, with its channels closed and emptied as they should
 /// be, these first or last.
-fn end(random: &mut Random, lane: &Lane) -> Vec<Edit> {
-    let number = random.below(usize::from(lane.network.processes));
+pub fn end(random: &mut Random, lane: &Lane, number: usize) -> Vec<Edit> {
     let mut edits = Vec::new();
     let mut channels = lane.channels;
     for (channel, record) in channels.iter_mut().zip(lane.network.used_records()) {

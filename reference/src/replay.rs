@@ -1,7 +1,7 @@
 //! Replays a script of calls: each line is printed with its answer and with
 //! what the call changed. docs/SCRIPTS.md has the rules.
 
-use crate::calls::{close, feed, pick, take, Answer, Taken};
+use crate::calls::{burst, close, feed, pick, take, Answer, Burst, Taken};
 use crate::file;
 use crate::lane::{Channel, Lane, Process, CELLS};
 use crate::network::{Instruction, Network, REGISTERS};
@@ -131,6 +131,14 @@ fn write_network(network: &Network, length: usize, to: &mut impl Write) -> io::R
     Ok(())
 }
 
+/// A refused burst says too how many values went in before.
+fn print_burst(fed: usize, refused: Option<Refusal>, to: &mut impl Write) -> io::Result<()> {
+    match refused {
+        None => write!(to, ": fed {fed} accepted"),
+        Some(refusal) => write!(to, ": fed {fed} refused {}", refusal.number()),
+    }
+}
+
 fn refused(refusal: Refusal, to: &mut impl Write) -> io::Result<()> {
     write!(to, ": refused {}", refusal.number())
 }
@@ -152,6 +160,10 @@ impl State {
             Call::Take(channel) => take(lane, cells, channel).map(taken),
             Call::Run(bytes) => run(lane, cells, &bytes).map(ran),
             Call::Drive(picks) => drive(lane, cells, picks).map(driven),
+            Call::Burst(channel, values) => {
+                let Burst { fed, refused } = burst(lane, cells, channel, &values);
+                return print_burst(fed, refused, to);
+            }
             Call::Relieve(length) => return self.relieve(length, to),
         };
         match answer {

@@ -13,6 +13,8 @@ pub const BUFFER: usize = 4_700;
 pub const RING: usize = 32;
 /// Most pick bytes of a run.
 pub const BYTES: usize = 256;
+/// Most values of a burst.
+pub const VALUES: usize = 512;
 /// Cells of a script's lane: one more than the calls need.
 pub const ALL_CELLS: usize = CELLS + 1;
 
@@ -36,6 +38,7 @@ pub enum Line<'a> {
 pub enum Call {
     Pick(usize),
     Feed(usize, i32),
+    Burst(usize, Vec<i32>),
     Close(usize),
     Take(usize),
     Relieve(usize),
@@ -96,6 +99,10 @@ fn call(words: &[&str]) -> Option<Call> {
         ["pick" | "lent-pick", process] => Call::Pick(number(process, usize::MAX)?),
         ["feed" | "lent-feed", channel, text] => {
             Call::Feed(number(channel, usize::MAX)?, value(text)?)
+        }
+        ["burst", channel, ref values @ ..] if values.len() <= VALUES => {
+            let values: Option<Vec<i32>> = values.iter().map(|text| value(text)).collect();
+            Call::Burst(number(channel, usize::MAX)?, values?)
         }
         ["close", channel] => Call::Close(number(channel, usize::MAX)?),
         ["take" | "lent-take", channel] => Call::Take(number(channel, usize::MAX)?),

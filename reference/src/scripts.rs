@@ -2,6 +2,7 @@
 //! suit the state of the lane, and so that what they meet can be counted.
 
 use crate::board::Board;
+use crate::bursts;
 use crate::clauses::{clauses, Clause};
 use crate::damage;
 use crate::file::{self, BLOCK};
@@ -14,7 +15,7 @@ use crate::plans;
 use crate::random::Random;
 use crate::replay::Replay;
 use crate::schedule::{drive, Driven, End, RELIEF};
-use crate::script::{parse, Call, Edit, Line};
+use crate::script::{parse, Call, Edit, Line, VALUES};
 use std::io;
 use std::path::Path;
 
@@ -148,7 +149,8 @@ impl<'a> Script<'a> {
     fn part(&mut self) -> io::Result<()> {
         match self.random.below(100) {
             _ if self.idle() && self.random.percent(15) => self.fresh(),
-            0..=52 => self.call(),
+            0..=50 => self.call(),
+            51 | 52 => self.bursts(),
             53..=69 => self.broken(),
             70..=83 => self.odd(),
             84..=87 => self.jam(),
@@ -183,7 +185,11 @@ impl<'a> Script<'a> {
         let lent = random.one(&["", "", "lent-"]);
         match random.below(100) {
             0..=31 => format!("{lent}pick {}", process(random, lane)),
-            32..=51 => format!("{lent}feed {} {}", channel(random, lane, 0), random.value()),
+            32..=46 => format!("{lent}feed {} {}", channel(random, lane, 0), random.value()),
+            47..=51 => {
+                let channel = channel(random, lane, 0);
+                bursts::line(channel, &bursts::values(random, lane, channel))
+            }
             52..=54 => format!("close {}", channel(random, lane, 0)),
             55..=71 => format!("{lent}take {}", channel(random, lane, 1)),
             72..=77 => format!("relieve {}", ring_buffer(random, lane)),
@@ -193,6 +199,33 @@ impl<'a> Script<'a> {
             }
             _ => format!("drive {}", self.picks(lane)),
         }
+    }
+
+    /// A burst or two on a channel from outside, in a state made for them, and now
+    /// and then the single feed that comes next.
+    fn bursts(&mut self) -> io::Result<()> {
+        let lane = self.lane().clone();
+        if !lane.is_sound() {
+            return Ok(());
+        }
+        let Some((channel, edits)) = bursts::edits(self.random, &lane) else {
+            return self.call();
+        };
+        self.edit_all(&edits)?;
+        for _ in 0..self.random.between(1, 2) {
+            let lane = self.lane().clone();
+            let values = bursts::values(self.random, &lane, channel);
+            let (fed, refused) = bursts::goes_in(&lane, channel, values.len());
+            let answer = self.answer(&bursts::line(channel, &values))?;
+            let end = refused.map(|refusal| format!("refused {}", refusal.number()));
+            let expected = format!(": fed {fed} {}", end.as_deref().unwrap_or("accepted"));
+            assert_eq!(answer.split(';').next(), Some(&expected[..]));
+        }
+        if self.random.percent(30) {
+            let value = self.random.value();
+            self.say(&format!("feed {channel} {value}"))?;
+        }
+        Ok(())
     }
 
     /// A number of picks after which a drive ends in time.
@@ -248,7 +281,8 @@ impl<'a> Script<'a> {
         for _ in 0..self.random.between(1, 2) {
             let line = self.call_on(&intact);
             let answer = self.answer(&line)?;
-            let unsound = answer.starts_with(": refused 16");
+            let answers = [": refused 16", ": fed 0 refused 16"];
+            let unsound = answers.iter().any(|start| answer.starts_with(start));
             assert!(unsound, "{name}: {line}{answer}");
             match edits.len() {
                 1 => self.met.clause(name, unsound),
@@ -479,6 +513,7 @@ impl<'a> Script<'a> {
             4 => line.split(' ').next().unwrap_or("").to_string() + "s 1",
             5 => format!("#{line}"),
             6 => String::new(),
+            7 if self.random.percent(10) => bursts::line(0, &[7; VALUES + 1]),
             7 => self.random.one(&BAD).to_string(),
             _ => format!("{line} 18446744073709551616"),
         };
@@ -487,9 +522,13 @@ impl<'a> Script<'a> {
 }
 
 /// Lines with a number just past its limit, or with a word that is not theirs.
-const BAD: [&str; 24] = [
+const BAD: [&str; 28] = [
     "pick 18446744073709551616",
     "feed 0 2147483648",
+    "burst",
+    "burst 18446744073709551616",
+    "burst 0 1 -2147483649",
+    "lent-burst 0 1",
     "lent-feed 0 -2147483649",
     "lent-take 99999999999999999999",
     "lent-close 0",
