@@ -93,6 +93,18 @@ fn lines() {
 }
 
 #[test]
+fn lines_of_bursts() {
+    let says = |line: &str, channel: usize, values: &[i32]| {
+        let burst = Call::Burst(channel, values.to_vec());
+        assert_eq!(parse(line.as_bytes()), Line::Call(burst), "{line}");
+    };
+    says("burst 3", 3, &[]);
+    says("burst 003 -7 2147483647 -0", 3, &[-7, i32::MAX, 0]);
+    says("burst 18446744073709551615", usize::MAX, &[]);
+    says(&format!("burst 0{}", " -2147483648".repeat(512)), 0, &[i32::MIN; 512]);
+}
+
+#[test]
 fn edits() {
     let channel = Channel { capacity: 1, oldest: 65_535, held: 3, closed: true };
     let record = Record { sender: 255, receiver: 0, capacity: 65_535 };
@@ -128,6 +140,7 @@ fn edits() {
 #[test]
 fn bad_lines() {
     let bytes = "run".to_string() + &" 7".repeat(257);
+    let values = "burst 0".to_string() + &" 7".repeat(513);
     for line in [
         // No such line, or words too many or too few.
         " ",
@@ -139,6 +152,9 @@ fn bad_lines() {
         "pick 0 0",
         "feed 0",
         "feed 0 1 2",
+        "burst",
+        "bursts 0 1",
+        "lent-burst 0 1",
         "close",
         "take",
         "relieve",
@@ -162,6 +178,10 @@ fn bad_lines() {
         "pick 0\r",
         "run ",
         "run 0  1",
+        "burst ",
+        "burst 0 ",
+        "burst  0",
+        "burst 0  1",
         "show ",
         " # no note",
         " lane a.bin",
@@ -180,6 +200,10 @@ fn bad_lines() {
         "feed 0 --1",
         "feed 0 1-",
         "feed -0 1",
+        "burst -0",
+        "burst 0 1 x",
+        "burst 0 1 +1",
+        "burst 0 - 1",
         "make accepted -1",
         // Past a limit.
         "pick 18446744073709551616",
@@ -195,6 +219,10 @@ fn bad_lines() {
         "run 256",
         "run 0 0 1000",
         &bytes,
+        "burst 18446744073709551616",
+        "burst 0 2147483648",
+        "burst 0 1 -2147483649",
+        &values,
         "drive 18446744073709551616",
         "write 4701",
         "room 8194",
@@ -329,6 +357,46 @@ fn picks_feeds_and_takes() {
 }
 
 #[test]
+fn bursts() {
+    // Channel 0 in, 1 out; the process stops at once.
+    let stops = network_of(&[&[STOP]], &[from_outside(0, 3), to_outside(0, 2)]);
+    let folder = folder("bursts", &[("stops.bin", stops)]);
+    replays(
+        &folder,
+        "burst 0|: fed 0 refused 16
+         burst 0 1|: fed 0 refused 16
+         lane stops.bin|
+         burst 0|: fed 0 accepted
+         burst 0 7 -8|: fed 2 accepted; channel 0 capacity 3 oldest 0 held 2 open; cell 0 is 7; cell 1 is -8; accepted 2
+         burst 0 9 10 11|: fed 1 refused 10; channel 0 capacity 3 oldest 0 held 3 open; cell 2 is 9; accepted 3
+         burst 0 10|: fed 0 refused 10
+         burst 0|: fed 0 accepted
+         burst 1 1|: fed 0 refused 9
+         burst 1|: fed 0 refused 9
+         burst 2 1|: fed 0 refused 8
+         burst 2|: fed 0 refused 8
+         burst 256|: fed 0 refused 8
+         make channel 0 capacity 3 oldest 254 held 1 open|
+         make accepted 18446744073709551614|
+         burst 0 98 6 5|: fed 2 refused 10; channel 0 capacity 3 oldest 254 held 3 open; cell 0 is 6; cell 255 is 98; accepted 18446744073709551615
+         close 0|: accepted; channel 0 capacity 3 oldest 254 held 3 closed
+         burst 0 1|: fed 0 refused 11
+         burst 0|: fed 0 accepted
+         make channel 0 capacity 3 oldest 254 held 0 open|
+         make accepted 0|
+         pick 0|: moved; process 0 position 0 stopped moves 1; channel 1 capacity 2 oldest 0 held 0 closed
+         burst 0 1 2 3 4 5|: fed 5 accepted; accepted 5
+         burst 0|: fed 0 accepted
+         close 0|: accepted; channel 0 capacity 3 oldest 254 held 0 closed; accepted 6
+         burst 0 1 2|: fed 0 refused 11
+         make channel 0 capacity 3 oldest 254 held 1 closed|
+         burst 9|: fed 0 refused 16
+         room 8191|
+         burst 9|: fed 0 refused 15",
+    );
+}
+
+#[test]
 fn a_position_after_a_drive_stands_as_it_is_now() {
     // The receive finds the channel closed and goes to 4, where it stops.
     let folder = folder("position", &[("sample.bin", bytes_of(&sample()))]);
@@ -404,6 +472,8 @@ fn rooms() {
              lent-pick 0|: refused 15
              feed 9 1|: refused 15
              lent-feed 0 1|: refused 15
+             burst 9|: fed 0 refused 15
+             burst 0 1 2|: fed 0 refused 15
              take 9|: refused 15
              lent-take 1|: refused 15
              run 9|: refused 15
@@ -565,6 +635,26 @@ fn edits_are_made() {
     );
 }
 
+/// A call of each kind, some of them to be refused on any lane.
+const CALLS: [&str; 16] = [
+    "pick 0",
+    "pick 3",
+    "feed 0 1",
+    "feed 9 1",
+    "burst 0",
+    "burst 0 1 2",
+    "burst 9",
+    "close 0",
+    "take 1",
+    "take 31",
+    "relieve 32",
+    "run 0 0 1 255",
+    "run 0 255",
+    "drive 50",
+    "write 4700",
+    "show",
+];
+
 /// Any edits with any numbers: no call panics, and on an unsound lane none
 /// does anything.
 #[test]
@@ -579,27 +669,13 @@ fn calls_answer_on_any_lane() {
             replay.state.edit(any_edit(random));
             let sound = replay.state.lane.is_sound();
             unsound += u64::from(!sound);
-            for call in [
-                "pick 0",
-                "pick 3",
-                "feed 0 1",
-                "feed 9 1",
-                "close 0",
-                "take 1",
-                "take 31",
-                "relieve 32",
-                "run 0 0 1 255",
-                "run 0 255",
-                "drive 50",
-                "write 4700",
-                "show",
-            ] {
+            for call in CALLS {
                 let before = replay.state.clone();
                 let mut out = Vec::new();
                 replay.play_line(call.as_bytes(), &mut out).unwrap();
                 let text = String::from_utf8(out).unwrap();
                 if !sound && call != "show" && call != "write 4700" {
-                    assert!(text.contains(": refused 16"), "{text}");
+                    assert!(text.contains(" refused 16"), "{text}");
                     assert_eq!(replay.state, before);
                 }
             }
