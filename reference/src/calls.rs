@@ -201,11 +201,22 @@ impl Lane {
         Ok(())
     }
 
+    /// Whether the channel is closed or unheard cannot change on the way, so that is
+    /// looked at once.
     fn put_all_outside(&mut self, cells: &mut Cells, number: u8, values: &[i32]) -> Burst {
+        let unheard = self.is_unheard(number);
+        let channel = &mut self.channels[usize::from(number)];
+        if channel.closed && !values.is_empty() {
+            return Burst { fed: 0, refused: Some(Refusal::Closed) };
+        }
         for (fed, &value) in values.iter().enumerate() {
-            if let Err(refusal) = self.put_outside(cells, number, value) {
-                return Burst { fed, refused: Some(refusal) };
+            if !unheard {
+                if channel.is_full() {
+                    return Burst { fed, refused: Some(Refusal::Full) };
+                }
+                channel.put(cells, number, value);
             }
+            self.accepted = self.accepted.saturating_add(1);
         }
         Burst { fed: values.len(), refused: None }
     }
