@@ -1,20 +1,21 @@
 //! A lane and all that happened on it: calls in any order and with any arguments,
 //! of which those for the outside keep to its input.
 
-use crate::calls::{close, feed, pick, take, Answer, Taken};
+use crate::bursts;
+use crate::calls::{burst, close, feed, pick, take, Answer, Burst, Taken};
 use crate::lane::{Cells, Lane};
 use crate::network::{Network, OUTSIDE, PROCESSES};
 use crate::random::Random;
 use crate::refusal::Refusal;
 use crate::relief::relieve;
 
-/// How often picks, feeds, closings, takes and reliefs are made.
-pub struct Leanings([usize; 5]);
+/// How often picks, feeds, closings, takes, reliefs and bursts are made.
+pub struct Leanings([usize; 6]);
 
 impl Leanings {
     /// Each list of calls has its own.
     pub fn any(random: &mut Random) -> Leanings {
-        Leanings([20, 5, 2, 5, 3].map(|weight| random.between(0, weight)))
+        Leanings([20, 5, 2, 5, 3, 2].map(|weight| random.between(0, weight)))
     }
 
     /// A kind of call, none where the draw falls to none.
@@ -38,6 +39,8 @@ pub struct Board<'a> {
     pub moves: u64,
     /// Reliefs that enlarged.
     pub enlarged: u64,
+    /// Values that bursts fed.
+    pub in_bursts: usize,
     fed: Vec<usize>,
     closed: Vec<bool>,
     pub sent: Vec<Vec<i32>>,
@@ -58,6 +61,7 @@ impl Board<'_> {
             input,
             moves: 0,
             enlarged: 0,
+            in_bursts: 0,
             fed: vec![0; channels],
             closed: vec![false; channels],
             sent: vec![Vec::new(); channels],
@@ -110,6 +114,24 @@ impl Board<'_> {
         accepted
     }
 
+    /// A burst of the next values of the input, so many at the most. Where nothing
+    /// can be fed, one that must be refused, unless it is empty.
+    fn burst(&mut self, channel: usize, most: usize) {
+        let input = self.input;
+        let values = match self.is_fed(channel) && !self.closed[channel] {
+            true => &input[channel][self.fed[channel]..],
+            false => &[99; 8],
+        };
+        let values = &values[..most.min(values.len())];
+        let Burst { fed, refused } = burst(&mut self.lane, &mut self.cells[..], channel, values);
+        self.count(bursts::line(channel, values), refused.map_or(Ok(()), Err));
+        if fed > 0 {
+            self.sent[channel].extend(&values[..fed]);
+            self.fed[channel] += fed;
+            self.in_bursts += fed;
+        }
+    }
+
     /// Closes, but a channel from outside only after all its input.
     pub fn close(&mut self, channel: usize) -> bool {
         if self.is_fed(channel) && self.fed[channel] < self.input[channel].len() {
@@ -156,7 +178,8 @@ impl Board<'_> {
             Some(1) => _ = self.feed(channel),
             Some(2) => _ = self.close(channel),
             Some(3) => _ = self.take(channel),
-            _ => _ = self.relieve(random.below(18)),
+            Some(4) => _ = self.relieve(random.below(18)),
+            Some(_) => self.burst(channel, random.below(12)),
         }
     }
 

@@ -94,7 +94,7 @@ fn other_capacities(random: &mut Random, network: &Network) -> Network {
 #[test]
 fn any_spare_fits_any_lane() {
     let random = &mut Random::new(3);
-    let (mut at_rest, mut both_at_rest) = (0, 0);
+    let (mut at_rest, mut both_at_rest, mut in_bursts) = (0, 0, 0);
     let mut refused = [0; 18];
     for _ in 0..600 {
         let network = plans::lane(random);
@@ -108,6 +108,7 @@ fn any_spare_fits_any_lane() {
             compare(&board, network, &input, random.below(50) as u64);
             settle(&mut board, 400);
             compare(&board, network, &input, random.below(50) as u64);
+            in_bursts += board.in_bursts;
             for (count, more) in refused.iter_mut().zip(board.refused) {
                 *count += more;
             }
@@ -123,6 +124,7 @@ fn any_spare_fits_any_lane() {
     }
     // The lists were worth trying.
     println!("{at_rest} boards at rest, {both_at_rest} pairs; refused {refused:?}");
+    assert!(in_bursts > 1_000, "{in_bursts}");
     assert!(at_rest > 200 && both_at_rest > 100, "{at_rest} {both_at_rest}");
     assert!(
         [8, 9, 10, 11, 12, 13, 14, 15].iter().all(|&number| refused[number] > 0),
