@@ -124,11 +124,8 @@ fn any_spare_fits_any_lane() {
     }
     // The lists were worth trying.
     println!("{at_rest} boards at rest, {both_at_rest} pairs; refused {refused:?}");
-    assert!(in_bursts > 1_000, "{in_bursts}");
     assert!(at_rest > 200 && both_at_rest > 100, "{at_rest} {both_at_rest}");
-    assert!(
-        [8, 9, 10, 11, 12, 13, 14, 15].iter().all(|&number| refused[number] > 0),
-        "{refused:?}"
-    );
+    assert!(in_bursts > 1_000, "{in_bursts}");
+    assert!(refused[8..16].iter().all(|&count| count > 0), "{refused:?}");
     assert_eq!(refused[16], 0);
 }
