@@ -241,7 +241,7 @@ module _ (ks : List Call) (w : World) (f : Fit w) where
   pub sent-is : (c : ℕ) → sent (calls ks) w c ≡ computed c ks w .sent
   sent-is c = ap (λ (s : Seen). s .sent) (seen c)
 
-  fit-left : Fit (after (calls ks) w)
+  pub fit-left : Fit (after (calls ks) w)
   fit-left = rw left-is (go ks w f)
     where
       go : (ks : List Call) (w : World) → Fit w → Fit (computed 0 ks w .left)

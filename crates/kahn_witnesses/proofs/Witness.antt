@@ -30,23 +30,23 @@ use Rattle.kahn_witnesses.proofs.Computed.{tests, files, playing, fille
 use Rattle.kahn.proofs.Whole.{any-spare-fits}
 
 -- ==== document 01's sample lane, with capacities 1 and 2: one process, channel 0 in, 1 out; each message is doubled
-pass₁ : passes (sample 1) ≡ true
+pub pass₁ : passes (sample 1) ≡ true
 unfolding tests
 pass₁ = passes-by (sample 1) program 4044 refl (omega arith) refl
 
-pass₂ : passes (sample 2) ≡ true
+pub pass₂ : passes (sample 2) ≡ true
 unfolding tests
 pass₂ = passes-by (sample 2) program 4044 refl (omega arith) refl
 
-read₁ : ReadAs (fileOf (sample 1)) (sample 1)
+pub read₁ : ReadAs (fileOf (sample 1)) (sample 1)
 unfolding files
 read₁ = read-by (sample 1) (shaped 1) pass₁ refl
 
-read₂ : ReadAs (fileOf (sample 2)) (sample 2)
+pub read₂ : ReadAs (fileOf (sample 2)) (sample 2)
 unfolding files
 read₂ = read-by (sample 2) (shaped 2) pass₂ refl
 
-alike : Alike (fileOf (sample 1)) (fileOf (sample 2))
+pub alike : Alike (fileOf (sample 1)) (fileOf (sample 2))
 unfolding files
 alike = alike-by (fileOf (sample 1)) (fileOf (sample 2)) refl
 
@@ -60,10 +60,10 @@ unfolding files
 byte₂ = refl
 
 -- what is left to compute, on channel 0 and of process 0
-sample-fair : (k : ℕ) (ks : List Call) (w : World) (f : Fit w) → FairOn ks w f (sample k) input 0 → Fair (sample k) input (calls ks) w
+pub sample-fair : (k : ℕ) (ks : List Call) (w : World) (f : Fit w) → FairOn ks w f (sample k) input 0 → Fair (sample k) input (calls ks) w
 sample-fair k ks w f h = fair-by ks w f (sample k) input (only-first (sample k) refl (FairOn ks w f (sample k) input) h)
 
-sample-rest : (k : ℕ) (ks : List Call) (w : World) (f : Fit w) → WholeOn ks w f (sample k) input 0 → Rests ks w f (sample k) input 0
+pub sample-rest : (k : ℕ) (ks : List Call) (w : World) (f : Fit w) → WholeOn ks w f (sample k) input 0 → Rests ks w f (sample k) input 0
     → AtRest (sample k) input (calls ks) w
 sample-rest k ks w f h q =
     rest-by ks w f (sample k) input (only-first (sample k) refl (WholeOn ks w f (sample k) input) h) (one-process (Rests ks w f (sample k) input) q)

@@ -1,3 +1,4 @@
 pub mod Written
 pub mod Fairly
 pub mod Whole
+pub mod Witness
