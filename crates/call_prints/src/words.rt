@@ -11,6 +11,8 @@ pub const ENDED: [u8; 16] = *b" ended..........";
 
 pub const ACCEPTED: [u8; 16] = *b" accepted.......";
 
+pub const FED: [u8; 16] = *b" fed ...........";
+
 pub const VALUE: [u8; 16] = *b" value .........";
 
 pub const END: [u8; 16] = *b" end............";

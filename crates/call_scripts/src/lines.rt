@@ -2,18 +2,22 @@
 use crate::edits;
 use crate::edits::Edit;
 use crate::script::Natural;
+use crate::script::Signed;
 use crate::script::fits;
 use crate::script::next;
 use crate::script::number;
 use crate::script::number_at;
 use crate::script::rest;
+use crate::script::value;
 use crate::script::value_at;
 use crate::script::word;
 
-// A call, with its process or channel and its value, the size of its buffer, or its number of picks. The bytes of a run stay in the line.
+// A call, with its process or channel and its value, the size of its buffer, or its number of picks. The bytes of a run and the values of a burst stay in
+// the line.
 pub enum Call {
     Pick(usize),
     Feed(usize, i32),
+    Burst(usize),
     Close(usize),
     Take(usize),
     LentPick(usize),
@@ -39,39 +43,73 @@ pub enum Line {
     Bad,
 }
 
-// How many bytes a run has.
-pub enum Bytes {
+// How many bytes a run has, or values a burst.
+pub enum Many {
     Are(usize),
     Bad,
 }
 
 // The bytes of a line whose first word is `run`, at the front of a buffer.
-pub fn bytes_of(line: &[u8], bytes: &mut [u8]) -> Bytes {
+pub fn bytes_of(line: &[u8], bytes: &mut [u8]) -> Many {
     let mut n: usize = 0;
     let mut k: usize = 3;
     while k < line.len() {
         let end = next(line, k + 1, b' ');
         let Natural::Is(byte) = number(&line[k + 1..end]) else {
-            return Bytes::Bad;
+            return Many::Bad;
         };
         if 255 < byte {
-            return Bytes::Bad;
+            return Many::Bad;
         }
         if bytes.len() <= n {
-            return Bytes::Bad;
+            return Many::Bad;
         }
         bytes[n] = byte as u8;
         n += 1;
         k = end;
     }
-    Bytes::Are(n)
+    Many::Are(n)
 }
 
 fn run_of(line: &[u8]) -> Call {
     let mut bytes = [0u8; 256];
     match bytes_of(line, &mut bytes) {
-        Bytes::Are(_) => Call::Run,
-        Bytes::Bad => Call::Bad,
+        Many::Are(_) => Call::Run,
+        Many::Bad => Call::Bad,
+    }
+}
+
+// The values of a line whose first words are `burst` and a channel, at the front of a buffer.
+pub fn values_of(line: &[u8], values: &mut [i32]) -> Many {
+    let first = next(line, 0, b' ');
+    if line.len() <= first {
+        return Many::Bad;
+    }
+    let mut n: usize = 0;
+    let mut k: usize = next(line, first + 1, b' ');
+    while k < line.len() {
+        let end = next(line, k + 1, b' ');
+        let Signed::Is(v) = value(&line[k + 1..end]) else {
+            return Many::Bad;
+        };
+        if values.len() <= n {
+            return Many::Bad;
+        }
+        values[n] = v;
+        n += 1;
+        k = end;
+    }
+    Many::Are(n)
+}
+
+fn burst_of(line: &[u8]) -> Call {
+    let Natural::Is(c) = number(word(line, 1)) else {
+        return Call::Bad;
+    };
+    let mut values = [0i32; 512];
+    match values_of(line, &mut values) {
+        Many::Are(_) => Call::Burst(c as usize),
+        Many::Bad => Call::Bad,
     }
 }
 
@@ -113,6 +151,9 @@ fn call_of(line: &[u8]) -> Call {
     }
     if check::same(word(line, 0), b"run") {
         return run_of(line);
+    }
+    if check::same(word(line, 0), b"burst") {
+        return burst_of(line);
     }
     Call::Bad
 }

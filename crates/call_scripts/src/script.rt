@@ -84,7 +84,7 @@ fn negative(size: u64) -> Signed {
 }
 
 // A number with or without a minus before it, from -2147483648 to 2147483647.
-fn value(word: &[u8]) -> Signed {
+pub fn value(word: &[u8]) -> Signed {
     if word.len() == 0 {
         return Signed::Not;
     }

@@ -5,11 +5,14 @@ use crate::answers::print_relieved;
 use crate::lent;
 use call_prints::shows::print_bytes;
 use call_prints::shows::print_fed;
+use call_prints::shows::print_number;
 use call_prints::shows::print_picked;
 use call_prints::shows::print_taken;
-use call_scripts::lines::Bytes;
+use call_prints::words;
 use call_scripts::lines::Call;
+use call_scripts::lines::Many;
 use call_scripts::lines::bytes_of;
+use call_scripts::lines::values_of;
 use lane::Fed;
 use lane::Lane;
 use lane::Picked;
@@ -34,7 +37,7 @@ fn taken(taken: Taken) -> Lane {
     taken.lane
 }
 
-// ---- calls with a buffer, bytes or a number of picks
+// ---- calls with a buffer, bytes, values or a number of picks
 fn relieve_into(lane: Lane, buffer: &mut [u8]) -> Lane {
     let relieved = relief::relieve(lane, buffer);
     let answer = relieved.answer;
@@ -56,7 +59,7 @@ fn relieve(lane: Lane, n: usize) -> Lane {
 // The bytes stand in the line.
 fn run(lane: Lane, cells: &mut [i32], line: &[u8]) -> Lane {
     let mut bytes = [0u8; 256];
-    let Bytes::Are(n) = bytes_of(line, &mut bytes) else {
+    let Many::Are(n) = bytes_of(line, &mut bytes) else {
         return lane;
     };
     if 256 < n {
@@ -67,6 +70,23 @@ fn run(lane: Lane, cells: &mut [i32], line: &[u8]) -> Lane {
     let answer = ran.answer;
     print_ran(answer);
     ran.lane
+}
+
+// The values stand in the line.
+fn burst(lane: Lane, cells: &mut [i32], c: usize, line: &[u8]) -> Lane {
+    let mut values = [0i32; 512];
+    let Many::Are(n) = values_of(line, &mut values) else {
+        return lane;
+    };
+    if 512 < n {
+        return lane;
+    }
+    let start = 0;
+    let delivered = bursts::burst(lane, cells, c, &values[start..n]);
+    let answer = delivered.answer;
+    print_number(words::FED, delivered.fed as u64);
+    print_fed(answer);
+    delivered.lane
 }
 
 fn drive(lane: Lane, cells: &mut [i32], picks: u64) -> Lane {
@@ -81,6 +101,7 @@ fn called(lane: Lane, cells: &mut [i32], call: Call, line: &[u8]) -> Lane {
     match call {
         Call::Pick(p) => picked(lane_calls::pick(lane, cells, p)),
         Call::Feed(c, v) => fed(lane_calls::feed(lane, cells, c, v)),
+        Call::Burst(c) => burst(lane, cells, c, line),
         Call::Close(c) => fed(lane_calls::close(lane, c)),
         Call::Take(c) => taken(lane_calls::take(lane, cells, c)),
         Call::LentPick(p) => picked(lent::pick(lane, cells, p)),
