@@ -12,7 +12,7 @@ use lib.Dec.{eqb, ltb}
 use lib.IntN.{ℤ}
 use lib.ListN.{length, getD}
 use Rattle.process.specs.declared.Channel.{Channel}
-use Rattle.process.specs.Channels.{noChannel}
+use Rattle.process.specs.Channels.{noChannel, putOne}
 use Rattle.process.specs.Execute.{full}
 use Rattle.lane.specs.declared.Lane.{Lane}
 use Rattle.lane.specs.State.{World, world, channelOf}
@@ -22,17 +22,14 @@ use Rattle.lane.proofs.CallCases.{Feedable, feed-cases}
 use Rattle.lane.proofs.SoundLaws.{sound-says}
 use Rattle.call_parts.specs.Tests.{Opened}
 use Rattle.bursts.specs.Bursts.{Delivery, delivery, isAccepted, onward, feedsOf, burstOf}
-use Rattle.bursts.specs.Singly.{Open, roomFor, stopped, AsManyAsFit, ThenOnlyFull}
+use Rattle.bursts.specs.Singly.{Open, roomIn, roomFor, stopped, AsManyAsFit, ThenOnlyFull}
 use Rattle.bursts.specs.Pouring.{Stream, stream, pourOne, pourOf}
 use Rattle.bursts.proofs.Pours.{Outer, room}
 use Rattle.bursts.proofs.Ways.{burst-none, burst-poured}
 
 -- ---- in the loop
-abbrev roomOf : Bool → ℕ → Channel → ℕ
-roomOf gone n h = cond gone n (min n (h .capacity - h .held))
-
 pour-room : (c : ℕ) (gone : Bool) (vs : List ℤ) (s : Stream) → s .channel .held ≤ s .channel .capacity
-    → pourOf c gone vs s .fed ≡ s .fed + roomOf gone (length vs) (s .channel)
+    → pourOf c gone vs s .fed ≡ s .fed + roomIn gone (length vs) (s .channel)
 unfolding pourOf
 pour-room c true [] s l = omega arith
 pour-room c false [] s l = omega arith
@@ -41,8 +38,8 @@ pour-room c false (v ∷ vs) s l = go (eqb (s .channel .held) (s .channel .capac
   where
     go : (f : Bool) → eqb (s .channel .held) (s .channel .capacity) ≡ f
         → (s .channel .held + 1 ≤ s .channel .capacity
-        → pourOf c false vs (pourOne c false v s) .fed ≡ s .fed + 1 + min (length vs) (s .channel .capacity - (s .channel .held + 1)))
-        → cond f s (pourOf c false vs (pourOne c false v s)) .fed ≡ s .fed + min (suc (length vs)) (s .channel .capacity - s .channel .held)
+        → pourOf c false vs (pourOne c false v s) .fed ≡ s .fed + 1 + roomIn false (length vs) (putOne (s .channel)))
+        → cond f s (pourOf c false vs (pourOne c false v s)) .fed ≡ s .fed + roomIn false (suc (length vs)) (s .channel)
     go true e later = let q = eqb-true (s .channel .held) (s .channel .capacity) e in omega arith
     go false e later = let q = eqb-false (s .channel .held) (s .channel .capacity) e in let r = later (omega arith) in omega arith
 
@@ -76,7 +73,7 @@ module _ (c : ℕ) (w : World) (o : Open c w) where
         ended = refl;
       }
 
-  no-room : (gone : Bool) (h : Channel) → roomOf gone 0 h ≡ 0
+  no-room : (gone : Bool) (h : Channel) → roomIn gone 0 h ≡ 0
   no-room true h = refl
   no-room false h = omega arith
 

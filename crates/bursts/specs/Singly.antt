@@ -3,12 +3,13 @@
 -- Assumes nothing.
 use mathlib.Core.Path.{_≡_}
 use mathlib.Core.Logic.{_⊎_}
-use mathlib.Core.Bool.{false, cond}
+use mathlib.Core.Bool.{Bool, false, cond}
 use mathlib.Core.List.{List, [], _∷_}
 use Prim.Native.Nat.{ℕ, _-_, _≤_, _<_, min}
 use lib.Dec.{ltb}
 use lib.IntN.{ℤ, pos}
 use lib.ListN.{length, getD, take}
+use Rattle.process.specs.declared.Channel.{Channel}
 use Rattle.lane.specs.State.{World, channelOf}
 use Rattle.lane.specs.Calls.{Told, accepted, refused, called, cellsWrong, unsound, noChannelThere, senderInside, isClosed, receiverEnded, feedOf}
 use Rattle.bursts.specs.Bursts.{Delivery, delivery, feedNone, burstOf}
@@ -54,9 +55,12 @@ pub record Open (c : ℕ) (w : World) : Type 0 where
   pub outer : senderInside c w ≡ false
   pub unclosed : isClosed c w ≡ false
 
--- as many as there is room for; all, where the receiver has ended
+-- of n values as many as the channel has room for; all, where its receiver has ended (`gone`)
+abbrev pub roomIn : Bool → ℕ → Channel → ℕ
+roomIn gone n h = cond gone n (min n (h .capacity - h .held))
+
 abbrev pub roomFor : ℕ → ℕ → World → ℕ
-roomFor c n w = cond (receiverEnded c w) n (min n (channelOf (w .lane) c .capacity - channelOf (w .lane) c .held))
+roomFor c n w = roomIn (receiverEnded c w) n (channelOf (w .lane) c)
 
 abbrev pub stopped : ℕ → ℕ → Told
 stopped fed n = cond (ltb fed n) (refused 10) accepted

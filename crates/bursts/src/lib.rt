@@ -102,12 +102,13 @@ fn answer_of(fed: usize, n: usize) -> FeedAnswer
     FeedAnswer::Accepted
 }
 
-// No value went in.
+// No value went in: the lane is as it came, and nothing is counted.
 fn none_fed(lane: Lane, answer: FeedAnswer) -> Delivered
     ensures { λ r. ⌜ r ≡ record { lane = lane; fed = 0; answer = answer } ⌝ }
 {
+    let l = lane;
     Delivered {
-        lane,
+        lane: l,
         fed: 0,
         answer,
     }
@@ -133,12 +134,11 @@ fn burst_there(lane: Lane, cells: &mut [i32], c: usize, values: &[i32]) -> Deliv
     }
     let gone = call_parts::receiver_ended(lane, c);
     let p = pour(cells, c, h, gone, lane.accepted, values);
-    let fed = p.fed;
     let l = settle(lane, c, p);
-    let answer = answer_of(fed, values.len());
+    let answer = answer_of(p.fed, values.len());
     Delivered {
         lane: l,
-        fed,
+        fed: p.fed,
         answer,
     }
 }
