@@ -12,7 +12,7 @@ use lib.ListN.{length, getD, take}
 use Rattle.process.specs.Execute.{full}
 use Rattle.lane.specs.State.{World, channelOf}
 use Rattle.lane.specs.Calls.{Told, accepted, refused, Called, called, refuse, cellsWrong, unsound, noChannelThere, senderInside, isClosed, receiverEnded, stored, counting, feedOf}
-use Rattle.bursts.specs.Bursts.{Delivery, delivery, isAccepted, onward, feedsOf, feedNone, burstOf}
+use Rattle.bursts.specs.Bursts.{Delivery, delivery, isAccepted, onward, feedsOf}
 use Rattle.bursts.specs.Singly.{singly, AsSingly}
 
 module _ (c : ℕ) (w : World) where

@@ -4,7 +4,7 @@ use mathlib.Core.Path.{_≡_, refl, sym, ap, _∙_, subst⁻¹}
 use mathlib.Core.Logic.{_⊎_, inl, inr}
 use mathlib.Core.Bool.{Bool, true, false, cond, not, false≢true}
 use mathlib.Core.List.{List, [], _∷_}
-use Prim.Native.Nat.{ℕ, zero, suc, _+_, _-_, _≤_, _<_, min}
+use Prim.Native.Nat.{ℕ, zero, suc, _+_, _-_, _≤_, _<_}
 use native.Mathlib.Decide.{decLt}
 use native.Mathlib.Omega.{arith}
 use borrow.Author.Tests.{lt-ltb, eq-eqb, ltb-true, eqb-true, eqb-false, not-false}
@@ -13,18 +13,17 @@ use lib.IntN.{ℤ}
 use lib.ListN.{length, getD}
 use Rattle.process.specs.declared.Channel.{Channel}
 use Rattle.process.specs.Channels.{noChannel, putOne}
-use Rattle.process.specs.Execute.{full}
 use Rattle.lane.specs.declared.Lane.{Lane}
 use Rattle.lane.specs.State.{World, world, channelOf}
 use Rattle.lane.specs.Sound.{soundOf}
-use Rattle.lane.specs.Calls.{Told, accepted, refused, Called, called, receiverEnded, stored, counting, feedOf}
-use Rattle.lane.proofs.CallCases.{Feedable, feed-cases}
+use Rattle.lane.specs.Calls.{Told, accepted, refused, Called, receiverEnded, feedOf}
+use Rattle.lane.proofs.CallCases.{feed-cases}
 use Rattle.lane.proofs.SoundLaws.{sound-says}
 use Rattle.call_parts.specs.Tests.{Opened}
-use Rattle.bursts.specs.Bursts.{Delivery, delivery, isAccepted, onward, feedsOf, burstOf}
+use Rattle.bursts.specs.Bursts.{Delivery, delivery, isAccepted, feedsOf, burstOf}
 use Rattle.bursts.specs.Singly.{Open, roomIn, roomFor, stopped, AsManyAsFit, ThenOnlyFull}
 use Rattle.bursts.specs.Pouring.{Stream, stream, pourOne, pourOf}
-use Rattle.bursts.proofs.Pours.{Outer, room}
+use Rattle.bursts.proofs.Pours.{Outer}
 use Rattle.bursts.proofs.Ways.{burst-none, burst-poured}
 
 -- ---- in the loop

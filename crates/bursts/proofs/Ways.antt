@@ -3,7 +3,7 @@
 use mathlib.Core.Path.{_≡_, refl, sym, ap, _∙_}
 use mathlib.Core.Bool.{Bool, true, false}
 use mathlib.Core.List.{List, [], _∷_}
-use Prim.Native.Nat.{ℕ, _<_}
+use Prim.Native.Nat.{ℕ}
 use native.Mathlib.Omega.{arith}
 use lib.IntN.{ℤ}
 use lib.ListN.{length}
@@ -20,7 +20,7 @@ use Rattle.call_parts.specs.declared.Tested.{Tested}
 use Rattle.call_parts.specs.declared.Tested.the-variants as tested
 use Rattle.call_parts.specs.Tests.{decided, opened, Opened, offeredTo}
 use Rattle.call_parts.proofs.TestLaws.{says-opened, decide-opened, feed-opened}
-use Rattle.bursts.specs.Bursts.{Delivery, delivery, feedsOf, feedNone, burstOf}
+use Rattle.bursts.specs.Bursts.{delivery, feedsOf, feedNone, burstOf}
 use Rattle.bursts.specs.Singly.{stopped}
 use Rattle.bursts.specs.Pouring.{Stream, stream, pourOf, poured}
 use Rattle.bursts.proofs.Pours.{Outer, Ready, pass, pour-feeds}

@@ -6,7 +6,7 @@ use mathlib.Core.List.{[], _∷_}
 use Prim.Native.Nat.{ℕ}
 use Rattle.lane.specs.State.{World}
 use Rattle.lane.specs.Calls.{accepted, called, refuse, cellsWrong, unsound, noChannelThere, senderInside}
-use Rattle.bursts.specs.Bursts.{delivery, feedsOf, feedNone, burstOf}
+use Rattle.bursts.specs.Bursts.{delivery, feedNone, burstOf}
 use Rattle.bursts.specs.Singly.{singly, BurstsAreSingleFeeds, NothingElse, EmptyFeedsNothing, RestRefused, AsManyAsFit, ThenOnlyFull}
 use Rattle.bursts.proofs.Feeds.{feeds-singly, feeds-all, only-so}
 use Rattle.bursts.proofs.Room as room

@@ -3,7 +3,7 @@
 -- Assumes nothing.
 use mathlib.Core.Path.{_≡_, refl, sym, ap, _∙_, subst, subst⁻¹}
 use mathlib.Core.Bool.{Bool, true, false, true≢false}
-use mathlib.Core.List.{List, [], _∷_, _++_, append-assoc}
+use mathlib.Core.List.{List, [], _∷_, _++_}
 use Prim.Native.Nat.{ℕ}
 use native.Mathlib.Omega.{arith}
 use lib.IntN.{ℤ}
@@ -14,7 +14,7 @@ use Rattle.kahn.specs.Steps.{Step, call, innerRelief}
 use Rattle.kahn.specs.Steps as steps
 use Rattle.kahn.specs.Boards as boards
 use Rattle.kahn.specs.Boards.{Prefix, Quiet}
-use Rattle.with_bursts.specs.Acts.{Act, step, burst, after, fed, feeds, stepsOf, writtenOut}
+use Rattle.with_bursts.specs.Acts.{Act, step, burst, after, fed, feeds, writtenOut}
 use Rattle.with_bursts.specs.Theorem.{Fair, WasClosed, AtRest, Exactly}
 use Rattle.with_bursts.proofs.Written.{same, written-append}
 

@@ -1,8 +1,8 @@
 -- Demand 3 with bursts, whole: the statements of specs/Theorem.antt, from `one-board-holds` and `any-spare-fits` of the lists written out.
 -- Assumes nothing.
-use mathlib.Core.Path.{_≡_, refl, sym, ap, _∙_, subst, subst⁻¹}
+use mathlib.Core.Path.{sym, ap, _∙_, subst}
 use mathlib.Core.List.{List}
-use Prim.Native.Nat.{ℕ, _≤_}
+use Prim.Native.Nat.{ℕ}
 use native.Mathlib.Omega.{arith}
 use lib.IntN.{ℤ}
 use Rattle.network.specs.declared.Network.{Network}

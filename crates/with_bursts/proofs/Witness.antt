@@ -2,7 +2,7 @@
 -- follows later, and an empty one finds the channel full; and of capacity 2, where one burst brings all.
 -- Assumes nothing.
 use mathlib.Core.Path.{_≡_, refl, sym, ap, _∙_, subst⁻¹}
-use mathlib.Core.Bool.{Bool, true, false, not}
+use mathlib.Core.Bool.{false, not}
 use mathlib.Core.List.{List, [], _∷_, _++_}
 use Prim.Native.Nat.{ℕ}
 use borrow.Author.Tests.{eq-eqb}
@@ -19,7 +19,6 @@ use Rattle.kahn.specs.Calls.{Call, pick, feed, close, take, told}
 use Rattle.kahn.specs.Steps.{call, calls}
 use Rattle.kahn.specs.Steps as steps
 use Rattle.kahn.specs.Boards.{board}
-use Rattle.kahn.specs.Boards as boards
 use Rattle.kahn.proofs.InTurn.{input}
 use Rattle.kahn_witnesses.proofs.Traces.{Fit, replies, replies-are, left-is, sent-is, fit-left, computed}
 use Rattle.kahn_witnesses.proofs.Computed.{playing, filled, many-filled, fit, Entry, _⇒_, callsOf, repliesOf}

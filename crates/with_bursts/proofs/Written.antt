@@ -10,8 +10,8 @@ use lib.Dec.{eqb}
 use lib.IntN.{ℤ}
 use lib.ListN.{take}
 use Rattle.lane.specs.State.{World}
-use Rattle.lane.specs.Calls.{accepted, Called, feedOf}
-use Rattle.bursts.specs.Bursts.{Delivery, delivery, isAccepted, onward, feedsOf, burstOf}
+use Rattle.lane.specs.Calls.{Called, feedOf}
+use Rattle.bursts.specs.Bursts.{Delivery, delivery, isAccepted, feedsOf, burstOf}
 use Rattle.bursts.specs.Singly.{singly}
 use Rattle.bursts.proofs.Feeds.{AllRefused, AllTaken, all-alike}
 use Rattle.bursts.proofs.Whole.{rest-refused}
