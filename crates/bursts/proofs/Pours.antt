@@ -9,7 +9,7 @@ use native.Mathlib.Numerals.{add-one}
 use native.Mathlib.Omega.{arith}
 use borrow.Author.Tests.{lt-ltb, le-ltb, eq-eqb, eqb-false}
 use lib.IntN.{ℤ, pos}
-use lib.ListN.{length, getD, drop, set, length-set, length-drop}
+use lib.ListN.{length, getD, drop, set, length-set, drop-of-length-le}
 use lib.Seq.{drop-cons, getD-set-same, set-set}
 use Rattle.process.specs.declared.Channel.{Channel}
 use Rattle.process.specs.Channels.{noChannel, putOne, slot}
@@ -37,15 +37,11 @@ pub record Flows (c : ℕ) (gone : Bool) (values : List ℤ) (end : Stream) (cel
   pub roomy : h .held ≤ h .capacity
   pub rest : pourOf c gone (drop k values) (stream k h n cells) ≡ end
 
-none-left : {A : Type 0} (l : List A) → length l ≡ 0 → l ≡ []
-none-left [] e = refl
-none-left (x ∷ xs) e = absurd (omega arith)
-
 module _ (c : ℕ) (gone : Bool) (values : List ℤ) (end : Stream) (cells : List ℤ) (h : Channel) (n k : ℕ) (f : Flows c gone values end cells h n k) where
   -- all went in
   pub flows-all : length values ≤ k → stream k h n cells ≡ end
   unfolding pourOf
-  flows-all l = sym (ap (λ (vs : List ℤ). pourOf c gone vs (stream k h n cells)) (none-left (drop k values) (simp length-drop (omega arith)))) ∙ f .rest
+  flows-all l = sym (ap (λ (vs : List ℤ). pourOf c gone vs (stream k h n cells)) (drop-of-length-le values l)) ∙ f .rest
 
   module _ (more : k < length values) where
     -- the channel is full

@@ -4,13 +4,13 @@ use mathlib.Core.Path.{_≡_, refl, sym, ap, _∙_, subst⁻¹}
 use mathlib.Core.Logic.{_⊎_, inl, inr}
 use mathlib.Core.Bool.{Bool, true, false, cond, not, false≢true}
 use mathlib.Core.List.{List, [], _∷_}
-use Prim.Native.Nat.{ℕ, zero, suc, _+_, _-_, _≤_, _<_}
+use Prim.Native.Nat.{ℕ, suc, _+_, _-_, _≤_, _<_}
 use native.Mathlib.Decide.{decLt}
 use native.Mathlib.Omega.{arith}
 use borrow.Author.Tests.{lt-ltb, eq-eqb, ltb-true, eqb-true, eqb-false, not-false}
 use lib.Dec.{eqb, ltb}
 use lib.IntN.{ℤ}
-use lib.ListN.{length, getD}
+use lib.ListN.{length, List·getD-eq-default}
 use Rattle.process.specs.declared.Channel.{Channel}
 use Rattle.process.specs.Channels.{noChannel, putOne}
 use Rattle.lane.specs.declared.Lane.{Lane}
@@ -43,11 +43,6 @@ pour-room c false (v ∷ vs) s l = go (eqb (s .channel .held) (s .channel .capac
     go false e later = let q = eqb-false (s .channel .held) (s .channel .capacity) e in let r = later (omega arith) in omega arith
 
 -- ---- on a lane
-past : {A : Type 0} (l : List A) (k : ℕ) (d : A) → length l ≤ k → getD l k d ≡ d
-past [] k d e = refl
-past (x ∷ xs) zero d e = absurd (omega arith)
-past (x ∷ xs) (suc k) d e = past xs k d (omega arith)
-
 -- a sound lane has a record for each of its channels
 channel-there : (l : Lane) (c : ℕ) → soundOf l ≡ true → c < l .network .channels → c < length (l .channels)
 channel-there l c s t = at (decLt c (length (l .channels)))
@@ -56,7 +51,7 @@ channel-there l c s t = at (decLt c (length (l .channels)))
     at (yes d) = d
     at (no d) =
         let low = sound-says l s .channels c t .low in
-        let e : channelOf l c .capacity ≡ 0 = ap (λ (h : Channel). h .capacity) (past (l .channels) c noChannel (omega arith)) in
+        let e : channelOf l c .capacity ≡ 0 = ap (λ (h : Channel). h .capacity) (List·getD-eq-default (l .channels) noChannel (omega arith)) in
         absurd (omega arith)
 
 module _ (c : ℕ) (w : World) (o : Open c w) where

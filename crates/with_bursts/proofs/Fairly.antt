@@ -15,7 +15,7 @@ use Rattle.kahn.specs.Steps as steps
 use Rattle.kahn.specs.Boards as boards
 use Rattle.kahn.specs.Boards.{Prefix, Quiet}
 use Rattle.with_bursts.specs.Acts.{Act, step, burst, after, fed, feeds, writtenOut}
-use Rattle.with_bursts.specs.Theorem.{Fair, WasClosed, AtRest, Exactly}
+use Rattle.with_bursts.specs.Theorem.{Fair, WasClosed, AllIn, Exactly}
 use Rattle.with_bursts.proofs.Written.{same, written-append}
 
 -- ---- a closing in the list written out
@@ -130,20 +130,19 @@ module _ (n : Network) (input : ℕ → List ℤ) (acts : List Act) (w : World) 
       let r = among acts (k .0) (k .1) c (k .2) in
       (r .earlier, r .later, r .stands, closing c (r .earlier) w (subst (λ (l : List Step). closesBy (close c) (steps.after l w) c ≡ true) (r .same) (k .3)))
 
-  rests : AtRest n input acts w → boards.AtRest n input (writtenOut acts) w
-  rests r =
-      record {
-        allIn = record { fedAll = λ c o. same acts w .feeds c ∙ r .fedAll c o; closedAll = λ c o. shut c (r .closedAll c o) };
-        quiet = subst⁻¹ (Quiet n) (same acts w .left) (r .quiet);
-      }
+  all-in : AllIn n input acts w → boards.AllIn n input (writtenOut acts) w
+  all-in a = record { fedAll = λ c o. same acts w .feeds c ∙ a .fedAll c o; closedAll = λ c o. shut c (a .closedAll c o) }
 
-  resting : boards.AtRest n input (writtenOut acts) w → AtRest n input acts w
-  resting r =
-      record {
-        fedAll = λ c o. sym (same acts w .feeds c) ∙ r .allIn .fedAll c o;
-        closedAll = λ c o. shutting c (r .allIn .closedAll c o);
-        quiet = subst (Quiet n) (same acts w .left) (r .quiet);
-      }
+  all-came : boards.AllIn n input (writtenOut acts) w → AllIn n input acts w
+  all-came a = record { fedAll = λ c o. sym (same acts w .feeds c) ∙ a .fedAll c o; closedAll = λ c o. shutting c (a .closedAll c o) }
 
   pub exactly : Exactly n input acts w
-  exactly = record { fair = fair; fairly = fairly; rests = rests; resting = resting }
+  exactly =
+      record {
+        fair = (fair, fairly);
+        allIn = (all-in, all-came);
+        rest = (
+          λ r. record { allIn = all-in (r .allIn); quiet = subst⁻¹ (Quiet n) (same acts w .left) (r .quiet) },
+          λ r. record { allIn = all-came (r .allIn); quiet = subst (Quiet n) (same acts w .left) (r .quiet) },
+        );
+      }

@@ -37,7 +37,7 @@ holds n input acts w h =
           subst (λ (l : List ℤ). Prefix l (plainAfter (withoutCapacities n) input rounds .sent c)) (s .sends c) (h .sends .sends rounds (omega (arith, s .moves)) c);
       rests =
           λ r rounds enough.
-          let a = h .rests (fair-as-steps n input acts w .rests r) rounds (omega (arith, s .moves)) in
+          let a = h .rests (fair-as-steps n input acts w .rest .0 r) rounds (omega (arith, s .moves)) in
           record {
             sends = λ c. sym (s .sends c) ∙ a .sends c;
             processes = λ p l. ap (λ (x : World). processOf (x .lane) p) (sym (s .left)) ∙ a .processes p l;
@@ -47,7 +47,7 @@ holds n input acts w h =
 pub one-board-with-bursts : OneBoardWithBursts
 one-board-with-bursts f n reads cells many input acts fair =
     let w : World = board n cells in
-    holds n input acts w (one-board-holds f n reads cells many input (writtenOut acts) (fair-as-steps n input acts w .fair fair))
+    holds n input acts w (one-board-holds f n reads cells many input (writtenOut acts) (fair-as-steps n input acts w .fair .0 fair))
 
 pub any-spare-fits-with-bursts : AnySpareFitsWithBursts
 any-spare-fits-with-bursts f₁ f₂ n₁ n₂ r₁ r₂ alike cells₁ cells₂ many₁ many₂ input acts₁ acts₂ fair₁ fair₂ rest₁ rest₂ =
@@ -57,8 +57,8 @@ any-spare-fits-with-bursts f₁ f₂ n₁ n₂ r₁ r₂ alike cells₁ cells₂
     let x₂ = fair-as-steps n₂ input acts₂ w₂ in
     let s₁ = same acts₁ w₁ in
     let s₂ = same acts₂ w₂ in
-    let d = any-spare-fits f₁ f₂ n₁ n₂ r₁ r₂ alike cells₁ cells₂ many₁ many₂ input (writtenOut acts₁) (writtenOut acts₂) (x₁ .fair fair₁) (x₂ .fair fair₂) in
-    let a = d .agree (x₁ .rests rest₁) (x₂ .rests rest₂) in
+    let d = any-spare-fits f₁ f₂ n₁ n₂ r₁ r₂ alike cells₁ cells₂ many₁ many₂ input (writtenOut acts₁) (writtenOut acts₂) (x₁ .fair .0 fair₁) (x₂ .fair .0 fair₂) in
+    let a = d .agree (x₁ .rest .0 rest₁) (x₂ .rest .0 rest₂) in
     record {
       sends = λ c. sym (s₁ .sends c) ∙ a .sends c ∙ s₂ .sends c;
       processes =

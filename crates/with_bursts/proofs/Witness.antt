@@ -85,12 +85,12 @@ written₁ = refl
 fair₁ : Fair (sample 1) input acts₁ w₁
 unfolding playing
 fair₁ =
-    fair-as-steps (sample 1) input acts₁ w₁ .fairly
+    fair-as-steps (sample 1) input acts₁ w₁ .fair .1
     (lane.sample-fair 1 (callsOf entries₁) w₁ fit₁ (record { feeds = record { rest = []; longer = refl }; last = refl; whole = λ e. refl }))
 
 rest₁ : AtRest (sample 1) input acts₁ w₁
 unfolding playing
-rest₁ = fair-as-steps (sample 1) input acts₁ w₁ .resting (lane.sample-rest 1 (callsOf entries₁) w₁ fit₁ (refl, refl) refl)
+rest₁ = fair-as-steps (sample 1) input acts₁ w₁ .rest .1 (lane.sample-rest 1 (callsOf entries₁) w₁ fit₁ (refl, refl) refl)
 
 -- ---- what the bursts answered, where so many steps were made before
 module _ (acts : List Act) (ks : List Call) (w : World) (f : Fit w) (same-steps : writtenOut acts ≡ calls ks) (c : ℕ) (vs : List ℤ) where
@@ -153,12 +153,12 @@ whole = answers [] [] w₂ fit₂ refl 0 (pos 5 ∷ negsuc 2 ∷ []) refl refl r
 fair₂ : Fair (sample 2) input acts₂ w₂
 unfolding playing
 fair₂ =
-    fair-as-steps (sample 2) input acts₂ w₂ .fairly
+    fair-as-steps (sample 2) input acts₂ w₂ .fair .1
     (lane.sample-fair 2 calls₂ w₂ fit₂ (record { feeds = record { rest = []; longer = refl }; last = refl; whole = λ e. refl }))
 
 rest₂ : AtRest (sample 2) input acts₂ w₂
 unfolding playing
-rest₂ = fair-as-steps (sample 2) input acts₂ w₂ .resting (lane.sample-rest 2 calls₂ w₂ fit₂ (refl, refl) refl)
+rest₂ = fair-as-steps (sample 2) input acts₂ w₂ .rest .1 (lane.sample-rest 2 calls₂ w₂ fit₂ (refl, refl) refl)
 
 -- ---- the theorem at these
 holds : Holds (sample 1) input acts₁ w₁

@@ -2,7 +2,7 @@
 -- Assumes nothing.
 use mathlib.Core.Path.{_≡_, refl, sym, ap, ap₂, _∙_}
 use mathlib.Core.Logic.{_⊎_, inl, inr}
-use mathlib.Core.Bool.{Bool, true, false, cond, _&&_}
+use mathlib.Core.Bool.{Bool, true, false, cond, _&&_, and-false}
 use mathlib.Core.List.{List, [], _∷_, _++_, append-assoc}
 use Prim.Native.Nat.{ℕ, suc, _+_}
 use native.Mathlib.Omega.{arith}
@@ -49,10 +49,6 @@ module _ (c : ℕ) where
   none-on : (here : Bool) (vs : List ℤ) → On here 0 vs ≡ []
   none-on true vs = refl
   none-on false vs = refl
-
-  and-false : (t : Bool) → (t && false) ≡ false
-  and-false true = refl
-  and-false false = refl
 
   more-on : (here : Bool) (k : ℕ) (v : ℤ) (vs : List ℤ) → one (here && true) v ++ On here k vs ≡ On here (suc k) (v ∷ vs)
   more-on true k v vs = refl

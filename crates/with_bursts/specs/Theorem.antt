@@ -2,6 +2,7 @@
 -- the statements.
 -- Assumes nothing.
 use mathlib.Core.Path.{_≡_}
+use mathlib.Core.Logic.{_↔_}
 use mathlib.Core.Bool.{true}
 use mathlib.Core.List.{List, _∷_, _++_}
 use Prim.Native.Nat.{ℕ, _≤_, _<_}
@@ -37,18 +38,21 @@ abbrev pub WasClosed : List Act → World → ℕ → Type 0
 WasClosed acts w c =
     (before : List Act) × (later : List Act) × (acts ≡ before ++ (step (call (close c)) ∷ later)) × (closesBy (close c) (after before w) c ≡ true)
 
--- "on each channel from outside all input and a closing were accepted, and a pick of every process would answer ended or waiting-empty"
-pub record AtRest (n : Network) (input : ℕ → List ℤ) (acts : List Act) (w : World) : Type 0 where
+-- "on each channel from outside all input and a closing were accepted"
+pub record AllIn (n : Network) (input : ℕ → List ℤ) (acts : List Act) (w : World) : Type 0 where
   pub fedAll : (c : ℕ) → fromOutside n c ≡ true → fed acts w c ≡ input c
   pub closedAll : (c : ℕ) → fromOutside n c ≡ true → WasClosed acts w c
+
+-- "and a pick of every process would answer ended or waiting-empty"
+pub record AtRest (n : Network) (input : ℕ → List ℤ) (acts : List Act) (w : World) : Type 0 where
+  pub allIn : AllIn n input acts w
   pub quiet : Quiet n (after acts w)
 
 -- these are demand 3's, of the list written out: none is lost, and none is added
 pub record Exactly (n : Network) (input : ℕ → List ℤ) (acts : List Act) (w : World) : Type 0 where
-  pub fair : Fair n input acts w → steps.Fair n input (writtenOut acts) w
-  pub fairly : steps.Fair n input (writtenOut acts) w → Fair n input acts w
-  pub rests : AtRest n input acts w → steps.AtRest n input (writtenOut acts) w
-  pub resting : steps.AtRest n input (writtenOut acts) w → AtRest n input acts w
+  pub fair : Fair n input acts w ↔ steps.Fair n input (writtenOut acts) w
+  pub allIn : AllIn n input acts w ↔ steps.AllIn n input (writtenOut acts) w
+  pub rest : AtRest n input acts w ↔ steps.AtRest n input (writtenOut acts) w
 
 abbrev pub FairAsSteps : Type 0
 FairAsSteps = (n : Network) (input : ℕ → List ℤ) (acts : List Act) (w : World) → Exactly n input acts w
