@@ -38,12 +38,13 @@ fn play(
     capacity: &mut [u16; 32],
     oldest: &mut [u16; 32],
     held: &mut [u16; 32],
+    peak: &mut [u16; 32],
     closed: &mut [bool; 32],
     cells: &mut [i32],
     listing: &mut [u8],
 ) -> usize
-    requires { ⌜ ((k : ℕ) → k < length (now picks) → names (getD (now picks) k 0) used ≡ true) × Outer (now sender) channels inputs (now «after_input») × Outer (now receiver) channels outputs (now «after_output») × Ready (plays (now picks)) used (fixed (now code) (now first) (now sender) (now receiver) channels) (now input) (turn (parts (now registers) (now positions) (now conditions) (now moves) (now capacity) (now oldest) (now held) (now closed)) (now cells) (now next) (now given) (now listing) 0) ⌝ }
-    ensures { λ r. ⌜ Did (plays (now (picks .entry))) used (fixed (now (code .entry)) (now (first .entry)) (now (sender .entry)) (now (receiver .entry)) channels) (now (input .entry)) (turn (parts (now (registers .entry)) (now (positions .entry)) (now (conditions .entry)) (now (moves .entry)) (now (capacity .entry)) (now (oldest .entry)) (now (held .entry)) (now (closed .entry))) (now (cells .entry)) (now (next .entry)) (now (given .entry)) (now (listing .entry)) 0) (turn (parts (now (registers .exit)) (now (positions .exit)) (now (conditions .exit)) (now (moves .exit)) (now (capacity .exit)) (now (oldest .exit)) (now (held .exit)) (now (closed .exit))) (now (cells .exit)) (now (next .exit)) (now (given .exit)) (now (listing .exit)) r) ⌝ }
+    requires { ⌜ ((k : ℕ) → k < length (now picks) → names (getD (now picks) k 0) used ≡ true) × Outer (now sender) channels inputs (now «after_input») × Outer (now receiver) channels outputs (now «after_output») × Ready (plays (now picks)) used (fixed (now code) (now first) (now sender) (now receiver) channels) (now input) (turn (parts (now registers) (now positions) (now conditions) (now moves) (now capacity) (now oldest) (now held) (now peak) (now closed)) (now cells) (now next) (now given) (now listing) 0) ⌝ }
+    ensures { λ r. ⌜ Did (plays (now (picks .entry))) used (fixed (now (code .entry)) (now (first .entry)) (now (sender .entry)) (now (receiver .entry)) channels) (now (input .entry)) (turn (parts (now (registers .entry)) (now (positions .entry)) (now (conditions .entry)) (now (moves .entry)) (now (capacity .entry)) (now (oldest .entry)) (now (held .entry)) (now (peak .entry)) (now (closed .entry))) (now (cells .entry)) (now (next .entry)) (now (given .entry)) (now (listing .entry)) 0) (turn (parts (now (registers .exit)) (now (positions .exit)) (now (conditions .exit)) (now (moves .exit)) (now (capacity .exit)) (now (oldest .exit)) (now (held .exit)) (now (peak .exit)) (now (closed .exit))) (now (cells .exit)) (now (next .exit)) (now (given .exit)) (now (listing .exit)) r) ⌝ }
 {
     let mut place: usize = 0;
     let mut i: usize = 0;
@@ -70,6 +71,7 @@ fn play(
             capacity,
             oldest,
             held,
+            peak,
             closed,
             cells,
             listing,
@@ -97,6 +99,7 @@ pub fn list(net: Network, input: &[u8], picks: &[u8], listing: &mut [u8]) -> usi
     let mut moves = [0u64; 16];
     let mut oldest = [0u16; 32];
     let mut held = [0u16; 32];
+    let mut peak = [0u16; 32];
     let mut closed = [false; 32];
     let mut next = [0usize; 32];
     let mut given = [false; 32];
@@ -126,6 +129,7 @@ pub fn list(net: Network, input: &[u8], picks: &[u8], listing: &mut [u8]) -> usi
         &mut capacity,
         &mut oldest,
         &mut held,
+        &mut peak,
         &mut closed,
         &mut cells,
         listing,
@@ -142,6 +146,7 @@ pub fn list(net: Network, input: &[u8], picks: &[u8], listing: &mut [u8]) -> usi
         &capacity,
         &oldest,
         &held,
+        &peak,
         &closed,
         listing,
         place,

@@ -37,11 +37,11 @@ as-it-was : (t : Inlets) (l : Lane) → Of t l → becomes t (l .accepted) l ≡
 as-it-was t l e = rw (← e)
 
 -- a call's count on what a lane has become
-count-is : (r : FeedAnswer) (t : Inlets) (a : ℕ) (l : Lane) (cells : List ℤ) (capacity oldest held : List ℕ) (closed : List Bool)
-    → world (counts (feedTold r) (putChannels (channelsOf capacity oldest held closed) (becomes t a l .lane))) cells
-    ≡ becomes (inlets capacity oldest held closed cells) (counts (feedTold r) (becomes t a l .lane) .accepted) l
-count-is Accepted t a l cells capacity oldest held closed = refl
-count-is (Refused x) t a l cells capacity oldest held closed = refl
+count-is : (r : FeedAnswer) (t : Inlets) (a : ℕ) (l : Lane) (cells : List ℤ) (capacity oldest held peak : List ℕ) (closed : List Bool)
+    → world (counts (feedTold r) (putChannels (channelsOf capacity oldest held peak closed) (becomes t a l .lane))) cells
+    ≡ becomes (inlets capacity oldest held peak closed cells) (counts (feedTold r) (becomes t a l .lane) .accepted) l
+count-is Accepted t a l cells capacity oldest held peak closed = refl
+count-is (Refused x) t a l cells capacity oldest held peak closed = refl
 
 -- ---- one channel: so far for lane l
 pub record PartwayOn (input : List ℕ) (c from : ℕ) (t : Inlets) (i : ℕ) (t′ : Inlets) (l : Lane) : Type 0 where
@@ -50,10 +50,10 @@ pub record PartwayOn (input : List ℕ) (c from : ℕ) (t : Inlets) (i : ℕ) (t
 
 -- for each lane that fits
 pub record Partway (input : List ℕ) (c from : ℕ) (gone : Bool) (t : Inlets) (i : ℕ) (t′ : Inlets) : Type 0 where
-  pub feedable : Feedable c (t′ .capacity) (t′ .oldest) (t′ .held) (t′ .closed) (t′ .cells)
+  pub feedable : Feedable c (t′ .capacity) (t′ .oldest) (t′ .held) (t′ .peak) (t′ .closed) (t′ .cells)
   pub each : (l : Lane) → Fills c gone t l → PartwayOn input c from t i t′ l
 
-pub fill-begins : (input : List ℕ) (c from : ℕ) (gone : Bool) (t : Inlets) → Feedable c (t .capacity) (t .oldest) (t .held) (t .closed) (t .cells) → Partway input c from gone t from t
+pub fill-begins : (input : List ℕ) (c from : ℕ) (gone : Bool) (t : Inlets) → Feedable c (t .capacity) (t .oldest) (t .held) (t .peak) (t .closed) (t .cells) → Partway input c from gone t from t
 fill-begins input c from gone t ready =
     record {
       feedable = ready;
@@ -77,22 +77,22 @@ module _ {input : List ℕ} {c from : ℕ} {gone : Bool} {t : Inlets} {i : ℕ} 
       record { feedable = p .feedable; each = λ l f. let q = p .each l f in record { accepted = q .accepted; filling = passed-over (q .filling) h n } }
 
   -- the feed is the rule's
-  feed-is : {v : ℤ} {r : FeedAnswer} {held : List ℕ} {cells : List ℤ} → FedIn c v gone (t′ .capacity) (t′ .oldest) (t′ .held) (t′ .closed) (t′ .cells) r held cells
+  feed-is : {v : ℤ} {r : FeedAnswer} {held peak : List ℕ} {cells : List ℤ} → FedIn c v gone (t′ .capacity) (t′ .oldest) (t′ .held) (t′ .peak) (t′ .closed) (t′ .cells) r held peak cells
       → (l : Lane) (f : Fills c gone t l)
-      → called (feedTold r) (becomes (inlets (t′ .capacity) (t′ .oldest) held (t′ .closed) cells) (counts (feedTold r) (becomes t′ (p .each l f .accepted) l .lane) .accepted) l)
+      → called (feedTold r) (becomes (inlets (t′ .capacity) (t′ .oldest) held peak (t′ .closed) cells) (counts (feedTold r) (becomes t′ (p .each l f .accepted) l .lane) .accepted) l)
       ≡ feedOf c v (becomes t′ (p .each l f .accepted) l)
-  feed-is {v} {r} {held} {cells} d l f =
+  feed-is {v} {r} {held} {peak} {cells} d l f =
       let q = p .each l f in
       let w = becomes t′ (q .accepted) l in
-      ap (called (feedTold r)) (sym (count-is r t′ (q .accepted) l cells (t′ .capacity) (t′ .oldest) held (t′ .closed)))
+      ap (called (feedTold r)) (sym (count-is r t′ (q .accepted) l cells (t′ .capacity) (t′ .oldest) held peak (t′ .closed)))
       ∙ d .told (w .lane) refl (f .ended)
       ∙ sym (feed-there c w (q .filling .kept .sound (f .sound)) (f .there) v (p .feedable .long) (f .outer))
 
   -- a value is taken
-  pub fill-takes : {r : FeedAnswer} {held : List ℕ} {cells : List ℤ} → i < records input → channelAt input i ≡ c
-      → FedIn c (valueAt input i) gone (t′ .capacity) (t′ .oldest) (t′ .held) (t′ .closed) (t′ .cells) r held cells → r ≡ Accepted
-      → Partway input c from gone t (i + 1) (inlets (t′ .capacity) (t′ .oldest) held (t′ .closed) cells)
-  fill-takes {r} {held} {cells} h e d a =
+  pub fill-takes : {r : FeedAnswer} {held peak : List ℕ} {cells : List ℤ} → i < records input → channelAt input i ≡ c
+      → FedIn c (valueAt input i) gone (t′ .capacity) (t′ .oldest) (t′ .held) (t′ .peak) (t′ .closed) (t′ .cells) r held peak cells → r ≡ Accepted
+      → Partway input c from gone t (i + 1) (inlets (t′ .capacity) (t′ .oldest) held peak (t′ .closed) cells)
+  fill-takes {r} {held} {peak} {cells} h e d a =
       let d′ = rw a at d in
       record {
         feedable = record { low = p .feedable .low; thirtyTwo = d .thirtyTwo; within = d .within; long = d .long };
@@ -100,10 +100,10 @@ module _ {input : List ℕ} {c from : ℕ} {gone : Bool} {t : Inlets} {i : ℕ} 
       }
 
   -- a value is refused
-  pub fill-stops : {r : FeedAnswer} {x : Refusal} {held : List ℕ} {cells : List ℤ} → i < records input → channelAt input i ≡ c
-      → FedIn c (valueAt input i) gone (t′ .capacity) (t′ .oldest) (t′ .held) (t′ .closed) (t′ .cells) r held cells → r ≡ Refused x
-      → Filled input c from gone t i (inlets (t′ .capacity) (t′ .oldest) held (t′ .closed) cells)
-  fill-stops {r} {x} {held} {cells} h e d a =
+  pub fill-stops : {r : FeedAnswer} {x : Refusal} {held peak : List ℕ} {cells : List ℤ} → i < records input → channelAt input i ≡ c
+      → FedIn c (valueAt input i) gone (t′ .capacity) (t′ .oldest) (t′ .held) (t′ .peak) (t′ .closed) (t′ .cells) r held peak cells → r ≡ Refused x
+      → Filled input c from gone t i (inlets (t′ .capacity) (t′ .oldest) held peak (t′ .closed) cells)
+  fill-stops {r} {x} {held} {peak} {cells} h e d a =
       let d′ = rw a at d in
       record {
         full = record { thirtyTwo = d .thirtyTwo; long = d .long };
@@ -114,8 +114,8 @@ module _ {input : List ℕ} {c from : ℕ} {gone : Bool} {t : Inlets} {i : ℕ} 
       }
 
   -- all is fed: the closing
-  pub fill-ends : {r : FeedAnswer} {closed : List Bool} → records input ≤ i → ClosedIn c (t′ .capacity) (t′ .oldest) (t′ .held) (t′ .closed) r closed
-      → Filled input c from gone t i (inlets (t′ .capacity) (t′ .oldest) (t′ .held) closed (t′ .cells))
+  pub fill-ends : {r : FeedAnswer} {closed : List Bool} → records input ≤ i → ClosedIn c (t′ .capacity) (t′ .oldest) (t′ .held) (t′ .peak) (t′ .closed) r closed
+      → Filled input c from gone t i (inlets (t′ .capacity) (t′ .oldest) (t′ .held) (t′ .peak) closed (t′ .cells))
   fill-ends {r} {closed} h d =
       record {
         full = record { thirtyTwo = d .thirtyTwo; long = p .feedable .long };
@@ -124,7 +124,7 @@ module _ {input : List ℕ} {c from : ℕ} {gone : Bool} {t : Inlets} {i : ℕ} 
             let q = p .each l f in
             let w = becomes t′ (q .accepted) l in
             let told =
-            ap (called (feedTold r)) (sym (count-is r t′ (q .accepted) l (t′ .cells) (t′ .capacity) (t′ .oldest) (t′ .held) closed))
+            ap (called (feedTold r)) (sym (count-is r t′ (q .accepted) l (t′ .cells) (t′ .capacity) (t′ .oldest) (t′ .held) (t′ .peak) closed))
             ∙ d .told (w .lane) refl (t′ .cells)
             ∙ sym (close-there c w (q .filling .kept .sound (f .sound)) (f .there) (f .outer)) in
             let after = spent (q .filling) h told in
@@ -171,7 +171,7 @@ module _ {sender receiver : List ℕ} {channels : ℕ} {conditions : List ℕ} {
 
     module _ (h : c < channels) where
       -- the channel may be fed
-      pub may-fill : Feedable c (t′ .capacity) (t′ .oldest) (t′ .held) (t′ .closed) (t′ .cells)
+      pub may-fill : Feedable c (t′ .capacity) (t′ .oldest) (t′ .held) (t′ .peak) (t′ .closed) (t′ .cells)
       may-fill =
           let q = p .each (ready .lane) (ready .feeds) in
           feedable (becomes t′ (q .accepted) (ready .lane) .lane) (q .rising .kept .sound (ready .feeds .sound)) (rw (← ready .feeds .number) h) (p .full .thirtyTwo) refl (p .full .long)
@@ -194,7 +194,7 @@ module _ {sender receiver : List ℕ} {channels : ℕ} {conditions : List ℕ} {
 
       -- it is idle
       pub idle-on : getD sender c 0 ≡ outside
-          → ((oldest : ℕ) → idleAt (channel (getD (t′ .capacity) c 0) oldest (getD (t′ .held) c 0) (getD (t′ .closed) c false)) (isEnded (conditionOf (getD conditions (getD receiver c 0) 0))) input c (getD next′ c 0) ≡ true)
+          → ((oldest peak : ℕ) → idleAt (channel (getD (t′ .capacity) c 0) oldest (getD (t′ .held) c 0) peak (getD (t′ .closed) c false)) (isEnded (conditionOf (getD conditions (getD receiver c 0) 0))) input c (getD next′ c 0) ≡ true)
           → Around sender receiver channels conditions input next t (c + 1) next′ t′
       idle-on outer idle =
           record {
@@ -207,7 +207,7 @@ module _ {sender receiver : List ℕ} {channels : ℕ} {conditions : List ℕ} {
                   accepted = q .accepted;
                   rising =
                       idle-passed (q .rising) (f .sound) (rw (← f .number) h) (rw (f .senders) outer)
-                      (rw (record-is (p .full .thirtyTwo) c refl, ← ended-is refl l f) (idle (getD (t′ .oldest) c 0)));
+                      (rw (record-is (p .full .thirtyTwo) c refl, ← ended-is refl l f) (idle (getD (t′ .oldest) c 0) (getD (t′ .peak) c 0)));
                 };
           }
 

@@ -24,24 +24,25 @@ pub record Inlets : Type 0 where
   pub capacity : List ℕ
   pub oldest : List ℕ
   pub held : List ℕ
+  pub peak : List ℕ
   pub closed : List Bool
   pub cells : List ℤ
 
-abbrev pub inlets : List ℕ → List ℕ → List ℕ → List Bool → List ℤ → Inlets
-inlets capacity oldest held closed cells = record { capacity = capacity; oldest = oldest; held = held; closed = closed; cells = cells }
+abbrev pub inlets : List ℕ → List ℕ → List ℕ → List ℕ → List Bool → List ℤ → Inlets
+inlets capacity oldest held peak closed cells = record { capacity = capacity; oldest = oldest; held = held; peak = peak; closed = closed; cells = cells }
 
 -- the lengths
 pub record Full (t : Inlets) : Type 0 where
-  pub thirtyTwo : ThirtyTwo (t .capacity) (t .oldest) (t .held) (t .closed)
+  pub thirtyTwo : ThirtyTwo (t .capacity) (t .oldest) (t .held) (t .peak) (t .closed)
   pub long : length (t .cells) ≡ 8192
 
 -- these are l's channels
 abbrev pub Of : Inlets → Lane → Type 0
-Of t l = Channels (t .capacity) (t .oldest) (t .held) (t .closed) l
+Of t l = Channels (t .capacity) (t .oldest) (t .held) (t .peak) (t .closed) l
 
 -- lane l with the cells, where these are its channels, and the count of accepted calls is this one
 abbrev pub becomes : Inlets → ℕ → Lane → World
-becomes t accepted l = world (countedAs accepted (putChannels (channelsOf (t .capacity) (t .oldest) (t .held) (t .closed)) l)) (t .cells)
+becomes t accepted l = world (countedAs accepted (putChannels (channelsOf (t .capacity) (t .oldest) (t .held) (t .peak) (t .closed)) l)) (t .cells)
 
 -- ---- one channel, which is there and comes from outside; `gone`: its receiver has ended
 pub record Fills (c : ℕ) (gone : Bool) (t : Inlets) (l : Lane) : Type 0 where

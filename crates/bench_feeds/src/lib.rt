@@ -58,25 +58,26 @@ fn fill_in(
     capacity: &[u16; 32],
     oldest: &[u16; 32],
     held: &mut [u16; 32],
+    peak: &mut [u16; 32],
     closed: &mut [bool; 32],
     cells: &mut [i32],
 ) -> usize
-    requires { ⌜ Feedable c (now capacity) (now oldest) (now held) (now closed) (now cells) ⌝ }
-    ensures { λ r. ⌜ Filled (now (input .entry)) c from gone (inlets (now (capacity .entry)) (now (oldest .entry)) (now (held .entry)) (now (closed .entry)) (now (cells .entry))) r (inlets (now (capacity .entry)) (now (oldest .entry)) (now (held .exit)) (now (closed .exit)) (now (cells .exit))) ⌝ }
+    requires { ⌜ Feedable c (now capacity) (now oldest) (now held) (now peak) (now closed) (now cells) ⌝ }
+    ensures { λ r. ⌜ Filled (now (input .entry)) c from gone (inlets (now (capacity .entry)) (now (oldest .entry)) (now (held .entry)) (now (peak .entry)) (now (closed .entry)) (now (cells .entry))) r (inlets (now (capacity .entry)) (now (oldest .entry)) (now (held .exit)) (now (peak .exit)) (now (closed .exit)) (now (cells .exit))) ⌝ }
 {
     let records = input.len() / 5;
     let mut i = from;
     while i < records {
         if channel_at(input, i) == c {
             let v = value_at(input, i);
-            let answer = lent_calls::feed_in(c, v, gone, capacity, oldest, held, closed, cells);
+            let answer = lent_calls::feed_in(c, v, gone, capacity, oldest, held, peak, closed, cells);
             if let FeedAnswer::Refused(_) = answer {
                 return i;
             }
         }
         i += 1;
     }
-    lent_calls::close_in(c, capacity, oldest, held, closed);
+    lent_calls::close_in(c, capacity, oldest, held, peak, closed);
     i
 }
 
@@ -92,7 +93,7 @@ fn idle(
     closed: &[bool; 32],
 ) -> bool
     requires { ⌜ Idling c (now receiver) (now conditions) (now capacity) (now held) (now closed) ⌝ }
-    ensures { λ r. ⌜ ((oldest : ℕ) → r ≡ idleAt (channel (getD (now (capacity .entry)) c 0) oldest (getD (now (held .entry)) c 0) (getD (now (closed .entry)) c false)) (isEnded (conditionOf (getD (now (conditions .entry)) (getD (now (receiver .entry)) c 0) 0))) (now (input .entry)) c next) ⌝ }
+    ensures { λ r. ⌜ ((oldest peak : ℕ) → r ≡ idleAt (channel (getD (now (capacity .entry)) c 0) oldest (getD (now (held .entry)) c 0) peak (getD (now (closed .entry)) c false)) (isEnded (conditionOf (getD (now (conditions .entry)) (getD (now (receiver .entry)) c 0) 0))) (now (input .entry)) c next) ⌝ }
 {
     if closed[c] {
         return true;
@@ -122,11 +123,12 @@ pub fn feed_all(
     capacity: &[u16; 32],
     oldest: &[u16; 32],
     held: &mut [u16; 32],
+    peak: &mut [u16; 32],
     closed: &mut [bool; 32],
     cells: &mut [i32],
 )
-    requires { ⌜ Outer (now sender) channels inputs (now after) × Feeding (now sender) (now receiver) channels (now conditions) (now next) (inlets (now capacity) (now oldest) (now held) (now closed) (now cells)) ⌝ }
-    ensures { λ u. ⌜ Fed (now (sender .entry)) (now (receiver .entry)) channels (now (conditions .entry)) (now (input .entry)) (now (next .entry)) (inlets (now (capacity .entry)) (now (oldest .entry)) (now (held .entry)) (now (closed .entry)) (now (cells .entry))) (now (next .exit)) (inlets (now (capacity .entry)) (now (oldest .entry)) (now (held .exit)) (now (closed .exit)) (now (cells .exit))) ⌝ }
+    requires { ⌜ Outer (now sender) channels inputs (now after) × Feeding (now sender) (now receiver) channels (now conditions) (now next) (inlets (now capacity) (now oldest) (now held) (now peak) (now closed) (now cells)) ⌝ }
+    ensures { λ u. ⌜ Fed (now (sender .entry)) (now (receiver .entry)) channels (now (conditions .entry)) (now (input .entry)) (now (next .entry)) (inlets (now (capacity .entry)) (now (oldest .entry)) (now (held .entry)) (now (peak .entry)) (now (closed .entry)) (now (cells .entry))) (now (next .exit)) (inlets (now (capacity .entry)) (now (oldest .entry)) (now (held .exit)) (now (peak .exit)) (now (closed .exit)) (now (cells .exit))) ⌝ }
 {
     let mut c = inputs;
     while c < channels {
@@ -134,7 +136,7 @@ pub fn feed_all(
             let from = next[c];
             if !idle(c, from, input, receiver, conditions, capacity, held, closed) {
                 let gone = lane_parts::ended_at(receiver[c], conditions);
-                next[c] = fill_in(c, from, input, gone, capacity, oldest, held, closed, cells);
+                next[c] = fill_in(c, from, input, gone, capacity, oldest, held, peak, closed, cells);
             }
         }
         c = base::wide(after[c]);

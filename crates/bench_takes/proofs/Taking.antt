@@ -103,7 +103,7 @@ module _ {c : ℕ} {t : Outlets} {l : Lane} (full : Full t) (d : Drains c t l) w
 
 -- a take is allowed, however far the loop has come
 pub can-take : {c : ℕ} {all : Printed Outputs} {rest : Outputs → Printed Outputs} {t₀ t : Outlets} {l : Lane} → Full t → Drains c t₀ l → Partway all rest t₀ t l
-    → Takeable c (t .capacity) (t .oldest) (t .held) (t .closed) (t .cells)
+    → Takeable c (t .capacity) (t .oldest) (t .held) (t .peak) (t .closed) (t .cells)
 can-take {t = t} {l = l} full d p = takeable (becomes t (p .accepted) l) (p .sound) (d .there) (full .thirtyTwo) refl (full .long)
 
 -- ---- a take at channel c, which is there and goes outside
@@ -124,17 +124,17 @@ marked-long true given c e = length-set given c true ∙ e
 marked-long false given c e = e
 
 module _ {c : ℕ} {t : Outlets} {answer : TakeAnswer} {oldest held : List ℕ} (long : length (t .cells) ≡ 8192)
-    (k : TakenIn c (t .capacity) (t .oldest) (t .held) (t .closed) (t .cells) answer oldest held)
+    (k : TakenIn c (t .capacity) (t .oldest) (t .held) (t .peak) (t .closed) (t .cells) answer oldest held)
     {l : Lane} (there : c < l .network .channels) (outer : receiverOf (l .network) c ≡ outside)
     {all : Printed Outputs} {left : ℕ} {t₀ : Outlets} (p : Partway all (takesAt c left) t₀ t l) (some : 0 < left) where
   abbrev before : Lane
   before = becomes t (p .accepted) l
 
   abbrev number : ℕ
-  number = counts (takeTold answer) (putChannels (channelsOf (t .capacity) oldest held (t .closed)) before) .accepted
+  number = counts (takeTold answer) (putChannels (channelsOf (t .capacity) oldest held (t .peak) (t .closed)) before) .accepted
 
   abbrev leaving : Lane
-  leaving = countedAs number (putChannels (channelsOf (t .capacity) oldest held (t .closed)) l)
+  leaving = countedAs number (putChannels (channelsOf (t .capacity) oldest held (t .peak) (t .closed)) l)
 
   abbrev given : Printed Outputs
   given = givenBy c (t .given) (called (takeTold answer) (world leaving (t .cells)))
@@ -143,7 +143,7 @@ module _ {c : ℕ} {t : Outlets} {answer : TakeAnswer} {oldest held : List ℕ} 
   is-take =
       take-there c (world before (t .cells)) (p .sound) there long outer ∙ sym (k .told before refl)
       ∙ ap (λ (m : Lane). called (takeTold answer) (world m (t .cells)))
-      (counts-is (takeTold answer) (putChannels (channelsOf (t .capacity) oldest held (t .closed)) before))
+      (counts-is (takeTold answer) (putChannels (channelsOf (t .capacity) oldest held (t .peak) (t .closed)) before))
 
   next : takesAt c left (outputsOf t before) ≡ thenDo given (takesAt c (left - 1))
   next = takes-next c left (outputsOf t before) some ∙ ap (λ (r : Called). thenDo (givenBy c (t .given) r) (takesAt c (left - 1))) is-take
@@ -156,7 +156,7 @@ module _ {c : ℕ} {t : Outlets} {answer : TakeAnswer} {oldest held : List ℕ} 
   after-take : {ends : List Bool} {place : ℕ} {listing : List ℕ} → ends ≡ cond (isEnd (takeTold answer)) (set (t .given) c true) (t .given)
       → place ≡ t .place + length (text (lineFor c (takeTold answer)))
       → listing ≡ written (t .place) (text (lineFor c (takeTold answer))) (t .listing)
-      → Partway all (takesAt c (left - 1)) t₀ (outlets (t .capacity) oldest held (t .closed) ends (t .cells) listing place) l
+      → Partway all (takesAt c (left - 1)) t₀ (outlets (t .capacity) oldest held (t .peak) (t .closed) ends (t .cells) listing place) l
   after-take g w b =
       record {
         accepted = number;
@@ -166,11 +166,11 @@ module _ {c : ℕ} {t : Outlets} {answer : TakeAnswer} {oldest held : List ℕ} 
 
 -- the same in each lane
 pub one-take-less : {c left : ℕ} {t₀ t : Outlets} {answer : TakeAnswer} {oldest held : List ℕ} {given : List Bool} {place : ℕ} {listing : List ℕ} → Draining c left t₀ t → 0 < left
-    → TakenIn c (t .capacity) (t .oldest) (t .held) (t .closed) (t .cells) answer oldest held
+    → TakenIn c (t .capacity) (t .oldest) (t .held) (t .peak) (t .closed) (t .cells) answer oldest held
     → given ≡ cond (isEnd (takeTold answer)) (set (t .given) c true) (t .given)
     → place ≡ t .place + length (text (lineFor c (takeTold answer)))
     → listing ≡ written (t .place) (text (lineFor c (takeTold answer))) (t .listing)
-    → Draining c (left - 1) t₀ (outlets (t .capacity) oldest held (t .closed) given (t .cells) listing place)
+    → Draining c (left - 1) t₀ (outlets (t .capacity) oldest held (t .peak) (t .closed) given (t .cells) listing place)
 one-take-less {c} {t = t} {answer = answer} g some k e w b =
     record {
       full = record { thirtyTwo = k .thirtyTwo; ends = rw e (marked-long (isEnd (takeTold answer)) (t .given) c (g .full .ends)); long = g .full .long };
@@ -247,7 +247,7 @@ module _ {receiver : List ℕ} {channels : ℕ} {t : Outlets} {l : Lane} (d : Ta
 module _ {receiver : List ℕ} {channels c : ℕ} {t₀ t : Outlets} (g : Emptying receiver channels c t₀ t) (m : c < channels) {b : Bool}
     (test : b ≡ (eqb (getD receiver c 0) outside && not (getD (t .given) c false) && (ltb 0 (getD (t .held) c 0) || getD (t .closed) c false))) where
   gives-by : (l : Lane) (calls : ℕ) → l .network .receiver ≡ receiver → b ≡ givesAt c (outputsOf t (becomes t calls l))
-  gives-by l calls e = rw (e, record-is (g .full .thirtyTwo) c {h = getD (channelsOf (t .capacity) (t .oldest) (t .held) (t .closed)) c noChannel} refl) test
+  gives-by l calls e = rw (e, record-is (g .full .thirtyTwo) c {h = getD (channelsOf (t .capacity) (t .oldest) (t .held) (t .peak) (t .closed)) c noChannel} refl) test
 
   gives-is : (l : Lane) (d : Takes receiver channels t₀ l) → givesAt c (outputsOf t (becomes t (g .sofar l d .accepted) l)) ≡ b
   gives-is l d = sym (gives-by l (g .sofar l d .accepted) (d .receivers))

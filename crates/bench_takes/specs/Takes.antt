@@ -25,29 +25,30 @@ pub record Outlets : Type 0 where
   pub capacity : List ℕ
   pub oldest : List ℕ
   pub held : List ℕ
+  pub peak : List ℕ
   pub closed : List Bool
   pub given : List Bool
   pub cells : List ℤ
   pub listing : List ℕ
   pub place : ℕ
 
-abbrev pub outlets : List ℕ → List ℕ → List ℕ → List Bool → List Bool → List ℤ → List ℕ → ℕ → Outlets
-outlets capacity oldest held closed given cells listing place =
-    record { capacity = capacity; oldest = oldest; held = held; closed = closed; given = given; cells = cells; listing = listing; place = place }
+abbrev pub outlets : List ℕ → List ℕ → List ℕ → List ℕ → List Bool → List Bool → List ℤ → List ℕ → ℕ → Outlets
+outlets capacity oldest held peak closed given cells listing place =
+    record { capacity = capacity; oldest = oldest; held = held; peak = peak; closed = closed; given = given; cells = cells; listing = listing; place = place }
 
 -- the lengths
 pub record Full (t : Outlets) : Type 0 where
-  pub thirtyTwo : ThirtyTwo (t .capacity) (t .oldest) (t .held) (t .closed)
+  pub thirtyTwo : ThirtyTwo (t .capacity) (t .oldest) (t .held) (t .peak) (t .closed)
   pub ends : length (t .given) ≡ 32
   pub long : length (t .cells) ≡ 8192
 
 -- these are l's channels
 abbrev pub Of : Outlets → Lane → Type 0
-Of t l = Channels (t .capacity) (t .oldest) (t .held) (t .closed) l
+Of t l = Channels (t .capacity) (t .oldest) (t .held) (t .peak) (t .closed) l
 
 -- lane l where these are its channels, and the count of accepted calls is this one
 abbrev pub becomes : Outlets → ℕ → Lane → Lane
-becomes t accepted l = countedAs accepted (putChannels (channelsOf (t .capacity) (t .oldest) (t .held) (t .closed)) l)
+becomes t accepted l = countedAs accepted (putChannels (channelsOf (t .capacity) (t .oldest) (t .held) (t .peak) (t .closed)) l)
 
 -- lane l with the cells, and the ends given
 abbrev pub outputsOf : Outlets → Lane → Outputs

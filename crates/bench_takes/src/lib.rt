@@ -54,18 +54,19 @@ fn drain(
     capacity: &[u16; 32],
     oldest: &mut [u16; 32],
     held: &mut [u16; 32],
+    peak: &[u16; 32],
     closed: &[bool; 32],
     cells: &[i32],
     listing: &mut [u8],
     at: usize,
 ) -> usize
-    requires { ⌜ Drainable c (outlets (now capacity) (now oldest) (now held) (now closed) (now given) (now cells) (now listing) at) ⌝ }
-    ensures { λ r. ⌜ Drained c (outlets (now (capacity .entry)) (now (oldest .entry)) (now (held .entry)) (now (closed .entry)) (now (given .entry)) (now (cells .entry)) (now (listing .entry)) at) (outlets (now (capacity .entry)) (now (oldest .exit)) (now (held .exit)) (now (closed .entry)) (now (given .exit)) (now (cells .entry)) (now (listing .exit)) r) ⌝ }
+    requires { ⌜ Drainable c (outlets (now capacity) (now oldest) (now held) (now peak) (now closed) (now given) (now cells) (now listing) at) ⌝ }
+    ensures { λ r. ⌜ Drained c (outlets (now (capacity .entry)) (now (oldest .entry)) (now (held .entry)) (now (peak .entry)) (now (closed .entry)) (now (given .entry)) (now (cells .entry)) (now (listing .entry)) at) (outlets (now (capacity .entry)) (now (oldest .exit)) (now (held .exit)) (now (peak .entry)) (now (closed .entry)) (now (given .exit)) (now (cells .entry)) (now (listing .exit)) r) ⌝ }
 {
     let mut place = at;
     let mut left = held[c] + 1;
     while left > 0 {
-        let answer = take_in(c, capacity, oldest, held, closed, cells);
+        let answer = take_in(c, capacity, oldest, held, peak, closed, cells);
         place = print(answer, c, listing, place);
         mark(given, c, is_end(answer));
         left -= 1;
@@ -108,13 +109,14 @@ pub fn take_all(
     capacity: &[u16; 32],
     oldest: &mut [u16; 32],
     held: &mut [u16; 32],
+    peak: &[u16; 32],
     closed: &[bool; 32],
     cells: &[i32],
     listing: &mut [u8],
     at: usize,
 ) -> usize
-    requires { ⌜ Outer (now receiver) channels outputs (now after) × Taking (now receiver) channels (outlets (now capacity) (now oldest) (now held) (now closed) (now given) (now cells) (now listing) at) ⌝ }
-    ensures { λ r. ⌜ Took (now (receiver .entry)) channels (outlets (now (capacity .entry)) (now (oldest .entry)) (now (held .entry)) (now (closed .entry)) (now (given .entry)) (now (cells .entry)) (now (listing .entry)) at) (outlets (now (capacity .entry)) (now (oldest .exit)) (now (held .exit)) (now (closed .entry)) (now (given .exit)) (now (cells .entry)) (now (listing .exit)) r) ⌝ }
+    requires { ⌜ Outer (now receiver) channels outputs (now after) × Taking (now receiver) channels (outlets (now capacity) (now oldest) (now held) (now peak) (now closed) (now given) (now cells) (now listing) at) ⌝ }
+    ensures { λ r. ⌜ Took (now (receiver .entry)) channels (outlets (now (capacity .entry)) (now (oldest .entry)) (now (held .entry)) (now (peak .entry)) (now (closed .entry)) (now (given .entry)) (now (cells .entry)) (now (listing .entry)) at) (outlets (now (capacity .entry)) (now (oldest .exit)) (now (held .exit)) (now (peak .entry)) (now (closed .entry)) (now (given .exit)) (now (cells .entry)) (now (listing .exit)) r) ⌝ }
 {
     let mut place = at;
     let mut c = outputs;
@@ -126,6 +128,7 @@ pub fn take_all(
                 capacity,
                 oldest,
                 held,
+                peak,
                 closed,
                 cells,
                 listing,

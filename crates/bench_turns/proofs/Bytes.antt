@@ -42,7 +42,7 @@ use Rattle.bench_turns.proofs.Stages.{relief-is, pick-is}
 capacity-is : (n : Network) (accepted : ℕ) {t : Parts} → Full t → (c : ℕ) → channelOf (laneOf n accepted t) c .capacity ≡ getD (t .capacity) c 0
 capacity-is n accepted {t} full c =
     ap (λ (h : Channel). h .capacity)
-    (channel-at 32 (t .capacity) (t .oldest) (t .held) (t .closed) (full .thirtyTwo .room) (full .thirtyTwo .place) (full .thirtyTwo .number) (full .thirtyTwo .shut) c)
+    (channel-at 32 (t .capacity) (t .oldest) (t .held) (t .peak) (t .closed) (full .thirtyTwo .room) (full .thirtyTwo .place) (full .thirtyTwo .number) (full .thirtyTwo .mark) (full .thirtyTwo .shut) c)
 
 growth-is : (a : Told) (n : Network) (accepted : ℕ) {t : Parts} → Full t → growLines a (laneOf n accepted t) ≡ growthOf a (t .capacity)
 growth-is (enlarged k c) n accepted full = rw (capacity-is n accepted full c)

@@ -18,17 +18,17 @@ use Rattle.bench_takes.specs.Takes.{outlets, Takes, Taking, Took}
 use Rattle.bench_turns.specs.Turns.{turn, Of, heldBy, Room, Done, Ready, Did, Byte, ByteReady, ByteDone, ByteDid}
 use Rattle.bench_turns.proofs.Stages.{room-for-pick, room-for-takes, after-takes}
 
--- t with other numbers held, and closed or open; with other places of the oldest, and numbers held
-abbrev pub withFed : List ℕ → List Bool → Parts → Parts
-withFed held closed t = parts (t .registers) (t .positions) (t .conditions) (t .moves) (t .capacity) (t .oldest) held closed
+-- t with other numbers held, highest fillings, and closed or open; with other places of the oldest, and numbers held
+abbrev pub withFed : List ℕ → List ℕ → List Bool → Parts → Parts
+withFed held peak closed t = parts (t .registers) (t .positions) (t .conditions) (t .moves) (t .capacity) (t .oldest) held peak closed
 
 abbrev pub withTaken : List ℕ → List ℕ → Parts → Parts
-withTaken oldest held t = parts (t .registers) (t .positions) (t .conditions) (t .moves) (t .capacity) oldest held (t .closed)
+withTaken oldest held t = parts (t .registers) (t .positions) (t .conditions) (t .moves) (t .capacity) oldest held (t .peak) (t .closed)
 
 module _ (pick : ℕ) {used : ℕ} {f : Fixed} {input : List ℕ} {t : Parts} {cells : List ℤ} {next : List ℕ} {given : List Bool} {listing : List ℕ} {place : ℕ}
     (k : Ready (playsOne pick) used f input (turn t cells next given listing place)) where
   -- ---- the feeds
-  feeds-on : (n : Network) (accepted : ℕ) → Of used f (turn t cells next given listing place) n accepted → Feeds (f .sender) (f .receiver) (f .channels) (t .conditions) (inlets (t .capacity) (t .oldest) (t .held) (t .closed) cells) (laneOf n accepted t)
+  feeds-on : (n : Network) (accepted : ℕ) → Of used f (turn t cells next given listing place) n accepted → Feeds (f .sender) (f .receiver) (f .channels) (t .conditions) (inlets (t .capacity) (t .oldest) (t .held) (t .peak) (t .closed) cells) (laneOf n accepted t)
   feeds-on n accepted o =
       record {
         of = refl;
@@ -39,7 +39,7 @@ module _ (pick : ℕ) {used : ℕ} {f : Fixed} {input : List ℕ} {t : Parts} {c
         sound = o .sound;
       }
 
-  pub feeding-ready : Feeding (f .sender) (f .receiver) (f .channels) (t .conditions) next (inlets (t .capacity) (t .oldest) (t .held) (t .closed) cells)
+  pub feeding-ready : Feeding (f .sender) (f .receiver) (f .channels) (t .conditions) next (inlets (t .capacity) (t .oldest) (t .held) (t .peak) (t .closed) cells)
   feeding-ready =
       record {
         sending = k .sending;
@@ -51,18 +51,18 @@ module _ (pick : ℕ) {used : ℕ} {f : Fixed} {input : List ℕ} {t : Parts} {c
         feeds = feeds-on (k .network) (k .accepted) (k .of);
       }
 
-  module _ {next₁ held₁ : List ℕ} {closed₁ : List Bool} {cells₁ : List ℤ}
-      (fed : Fed (f .sender) (f .receiver) (f .channels) (t .conditions) input next (inlets (t .capacity) (t .oldest) (t .held) (t .closed) cells) next₁ (inlets (t .capacity) (t .oldest) held₁ closed₁ cells₁)) where
-    fed-full : arrays.Full (withFed held₁ closed₁ t)
+  module _ {next₁ held₁ peak₁ : List ℕ} {closed₁ : List Bool} {cells₁ : List ℤ}
+      (fed : Fed (f .sender) (f .receiver) (f .channels) (t .conditions) input next (inlets (t .capacity) (t .oldest) (t .held) (t .peak) (t .closed) cells) next₁ (inlets (t .capacity) (t .oldest) held₁ peak₁ closed₁ cells₁)) where
+    fed-full : arrays.Full (withFed held₁ peak₁ closed₁ t)
     fed-full = record { file = k .full .arrays .file; sixteen = k .full .arrays .sixteen; thirtyTwo = fed .full .thirtyTwo }
 
     -- of one network and count
     module _ (n : Network) (accepted : ℕ) (o : Of used f (turn t cells next given listing place) n accepted) (room : Room (turn t cells next given listing place) (playsOne pick (heldBy n accepted input (turn t cells next given listing place)))) where
-      fed-on : FedOn input next (inlets (t .capacity) (t .oldest) (t .held) (t .closed) cells) next₁ (inlets (t .capacity) (t .oldest) held₁ closed₁ cells₁) (laneOf n accepted t)
+      fed-on : FedOn input next (inlets (t .capacity) (t .oldest) (t .held) (t .peak) (t .closed) cells) next₁ (inlets (t .capacity) (t .oldest) held₁ peak₁ closed₁ cells₁) (laneOf n accepted t)
       fed-on = fed .done (laneOf n accepted t) (feeds-on n accepted o)
 
       -- ---- the byte
-      byte-on : Byte pick used f (withFed held₁ closed₁ t) cells₁ listing place n (fed-on .accepted)
+      byte-on : Byte pick used f (withFed held₁ peak₁ closed₁ t) cells₁ listing place n (fed-on .accepted)
       byte-on =
           record {
             lent = o .lent;
@@ -71,7 +71,7 @@ module _ (pick : ℕ) {used : ℕ} {f : Fixed} {input : List ℕ} {t : Parts} {c
             room = room-for-pick pick (heldBy n accepted input (turn t cells next given listing place)) place listing room (sym (fed-on .after));
           }
 
-    pub byte-ready : names pick used ≡ true → ByteReady pick used f (withFed held₁ closed₁ t) cells₁ listing place
+    pub byte-ready : names pick used ≡ true → ByteReady pick used f (withFed held₁ peak₁ closed₁ t) cells₁ listing place
     byte-ready named =
         record {
           named = named;
@@ -83,13 +83,13 @@ module _ (pick : ℕ) {used : ℕ} {f : Fixed} {input : List ℕ} {t : Parts} {c
         }
 
     module _ {t₂ : Parts} {cells₂ : List ℤ} {listing₂ : List ℕ} {place₂ : ℕ}
-        (did : ByteDid pick used f (withFed held₁ closed₁ t) cells₁ listing place t₂ cells₂ listing₂ place₂) where
+        (did : ByteDid pick used f (withFed held₁ peak₁ closed₁ t) cells₁ listing place t₂ cells₂ listing₂ place₂) where
       -- ---- the takes
       module _ (n : Network) (accepted : ℕ) (o : Of used f (turn t cells next given listing place) n accepted) (room : Room (turn t cells next given listing place) (playsOne pick (heldBy n accepted input (turn t cells next given listing place)))) where
-        byte-done : ByteDone (picksIn pick (world (laneOf n (fed-on n accepted o room .accepted) (withFed held₁ closed₁ t)) cells₁)) listing place t₂ cells₂ listing₂ place₂ n
+        byte-done : ByteDone (picksIn pick (world (laneOf n (fed-on n accepted o room .accepted) (withFed held₁ peak₁ closed₁ t)) cells₁)) listing place t₂ cells₂ listing₂ place₂ n
         byte-done = did .done n (fed-on n accepted o room .accepted) (byte-on n accepted o room)
 
-        takes-on : Takes (f .receiver) (f .channels) (outlets (t₂ .capacity) (t₂ .oldest) (t₂ .held) (t₂ .closed) given cells₂ listing₂ place₂) (laneOf n (byte-done .accepted) t₂)
+        takes-on : Takes (f .receiver) (f .channels) (outlets (t₂ .capacity) (t₂ .oldest) (t₂ .held) (t₂ .peak) (t₂ .closed) given cells₂ listing₂ place₂) (laneOf n (byte-done .accepted) t₂)
         takes-on =
             record {
               of = refl;
@@ -101,7 +101,7 @@ module _ (pick : ℕ) {used : ℕ} {f : Fixed} {input : List ℕ} {t : Parts} {c
                   (byte-done .lines);
             }
 
-      pub taking-ready : Taking (f .receiver) (f .channels) (outlets (t₂ .capacity) (t₂ .oldest) (t₂ .held) (t₂ .closed) given cells₂ listing₂ place₂)
+      pub taking-ready : Taking (f .receiver) (f .channels) (outlets (t₂ .capacity) (t₂ .oldest) (t₂ .held) (t₂ .peak) (t₂ .closed) given cells₂ listing₂ place₂)
       taking-ready =
           record {
             ends = k .receiving;
@@ -111,7 +111,7 @@ module _ (pick : ℕ) {used : ℕ} {f : Fixed} {input : List ℕ} {t : Parts} {c
           }
 
       module _ {oldest₃ held₃ : List ℕ} {given₃ : List Bool} {listing₃ : List ℕ} {place₃ : ℕ}
-          (took : Took (f .receiver) (f .channels) (outlets (t₂ .capacity) (t₂ .oldest) (t₂ .held) (t₂ .closed) given cells₂ listing₂ place₂) (outlets (t₂ .capacity) oldest₃ held₃ (t₂ .closed) given₃ cells₂ listing₃ place₃)) where
+          (took : Took (f .receiver) (f .channels) (outlets (t₂ .capacity) (t₂ .oldest) (t₂ .held) (t₂ .peak) (t₂ .closed) given cells₂ listing₂ place₂) (outlets (t₂ .capacity) oldest₃ held₃ (t₂ .peak) (t₂ .closed) given₃ cells₂ listing₃ place₃)) where
         -- ---- all of it
         all-done : (n : Network) (accepted : ℕ) → Of used f (turn t cells next given listing place) n accepted → Room (turn t cells next given listing place) (playsOne pick (heldBy n accepted input (turn t cells next given listing place)))
             → Done (playsOne pick (heldBy n accepted input (turn t cells next given listing place))) input (turn t cells next given listing place) (turn (withTaken oldest₃ held₃ t₂) cells₂ next₁ given₃ listing₃ place₃) n

@@ -51,13 +51,14 @@ fn pick_byte(
     capacity: &mut [u16; 32],
     oldest: &mut [u16; 32],
     held: &mut [u16; 32],
+    peak: &mut [u16; 32],
     closed: &mut [bool; 32],
     cells: &mut [i32],
     listing: &mut [u8],
     at: usize,
 ) -> usize
-    requires { ⌜ ByteReady pick used (fixed (now code) (now first) (now sender) (now receiver) channels) (parts (now registers) (now positions) (now conditions) (now moves) (now capacity) (now oldest) (now held) (now closed)) (now cells) (now listing) at ⌝ }
-    ensures { λ r. ⌜ ByteDid pick used (fixed (now (code .entry)) (now (first .entry)) (now (sender .entry)) (now (receiver .entry)) channels) (parts (now (registers .entry)) (now (positions .entry)) (now (conditions .entry)) (now (moves .entry)) (now (capacity .entry)) (now (oldest .entry)) (now (held .entry)) (now (closed .entry))) (now (cells .entry)) (now (listing .entry)) at (parts (now (registers .exit)) (now (positions .exit)) (now (conditions .exit)) (now (moves .exit)) (now (capacity .exit)) (now (oldest .exit)) (now (held .exit)) (now (closed .exit))) (now (cells .exit)) (now (listing .exit)) r ⌝ }
+    requires { ⌜ ByteReady pick used (fixed (now code) (now first) (now sender) (now receiver) channels) (parts (now registers) (now positions) (now conditions) (now moves) (now capacity) (now oldest) (now held) (now peak) (now closed)) (now cells) (now listing) at ⌝ }
+    ensures { λ r. ⌜ ByteDid pick used (fixed (now (code .entry)) (now (first .entry)) (now (sender .entry)) (now (receiver .entry)) channels) (parts (now (registers .entry)) (now (positions .entry)) (now (conditions .entry)) (now (moves .entry)) (now (capacity .entry)) (now (oldest .entry)) (now (held .entry)) (now (peak .entry)) (now (closed .entry))) (now (cells .entry)) (now (listing .entry)) at (parts (now (registers .exit)) (now (positions .exit)) (now (conditions .exit)) (now (moves .exit)) (now (capacity .exit)) (now (oldest .exit)) (now (held .exit)) (now (peak .exit)) (now (closed .exit))) (now (cells .exit)) (now (listing .exit)) r ⌝ }
 {
     if pick == 255 {
         let answer = schedule::relieve_in(
@@ -71,6 +72,7 @@ fn pick_byte(
             capacity,
             oldest,
             held,
+            peak,
             closed,
         );
         return print_growth(answer, capacity, listing, at);
@@ -89,6 +91,7 @@ fn pick_byte(
         capacity,
         oldest,
         held,
+        peak,
         closed,
         cells,
     );
@@ -118,13 +121,14 @@ pub fn play_one(
     capacity: &mut [u16; 32],
     oldest: &mut [u16; 32],
     held: &mut [u16; 32],
+    peak: &mut [u16; 32],
     closed: &mut [bool; 32],
     cells: &mut [i32],
     listing: &mut [u8],
     at: usize,
 ) -> usize
-    requires { ⌜ (names pick used ≡ true) × Outer (now sender) channels inputs (now «after_input») × Outer (now receiver) channels outputs (now «after_output») × Ready (playsOne pick) used (fixed (now code) (now first) (now sender) (now receiver) channels) (now input) (turn (parts (now registers) (now positions) (now conditions) (now moves) (now capacity) (now oldest) (now held) (now closed)) (now cells) (now next) (now given) (now listing) at) ⌝ }
-    ensures { λ r. ⌜ Did (playsOne pick) used (fixed (now (code .entry)) (now (first .entry)) (now (sender .entry)) (now (receiver .entry)) channels) (now (input .entry)) (turn (parts (now (registers .entry)) (now (positions .entry)) (now (conditions .entry)) (now (moves .entry)) (now (capacity .entry)) (now (oldest .entry)) (now (held .entry)) (now (closed .entry))) (now (cells .entry)) (now (next .entry)) (now (given .entry)) (now (listing .entry)) at) (turn (parts (now (registers .exit)) (now (positions .exit)) (now (conditions .exit)) (now (moves .exit)) (now (capacity .exit)) (now (oldest .exit)) (now (held .exit)) (now (closed .exit))) (now (cells .exit)) (now (next .exit)) (now (given .exit)) (now (listing .exit)) r) ⌝ }
+    requires { ⌜ (names pick used ≡ true) × Outer (now sender) channels inputs (now «after_input») × Outer (now receiver) channels outputs (now «after_output») × Ready (playsOne pick) used (fixed (now code) (now first) (now sender) (now receiver) channels) (now input) (turn (parts (now registers) (now positions) (now conditions) (now moves) (now capacity) (now oldest) (now held) (now peak) (now closed)) (now cells) (now next) (now given) (now listing) at) ⌝ }
+    ensures { λ r. ⌜ Did (playsOne pick) used (fixed (now (code .entry)) (now (first .entry)) (now (sender .entry)) (now (receiver .entry)) channels) (now (input .entry)) (turn (parts (now (registers .entry)) (now (positions .entry)) (now (conditions .entry)) (now (moves .entry)) (now (capacity .entry)) (now (oldest .entry)) (now (held .entry)) (now (peak .entry)) (now (closed .entry))) (now (cells .entry)) (now (next .entry)) (now (given .entry)) (now (listing .entry)) at) (turn (parts (now (registers .exit)) (now (positions .exit)) (now (conditions .exit)) (now (moves .exit)) (now (capacity .exit)) (now (oldest .exit)) (now (held .exit)) (now (peak .exit)) (now (closed .exit))) (now (cells .exit)) (now (next .exit)) (now (given .exit)) (now (listing .exit)) r) ⌝ }
 {
     bench_feeds::feed_all(
         inputs,
@@ -138,6 +142,7 @@ pub fn play_one(
         capacity,
         oldest,
         held,
+        peak,
         closed,
         cells,
     );
@@ -156,6 +161,7 @@ pub fn play_one(
         capacity,
         oldest,
         held,
+        peak,
         closed,
         cells,
         listing,
@@ -170,6 +176,7 @@ pub fn play_one(
         capacity,
         oldest,
         held,
+        peak,
         closed,
         cells,
         listing,
@@ -205,12 +212,13 @@ pub fn print_processes(
     capacity: &[u16; 32],
     oldest: &[u16; 32],
     held: &[u16; 32],
+    peak: &[u16; 32],
     closed: &[bool; 32],
     listing: &mut [u8],
     at: usize,
 ) -> usize
-    requires { ⌜ Printable used (arrays (now code) (now first) (now sender) (now receiver) (now positions) (now conditions) (now capacity) (now oldest) (now held) (now closed)) (now moves) (now listing) at ⌝ }
-    ensures { λ r. ⌜ PrintedAll used (arrays (now (code .entry)) (now (first .entry)) (now (sender .entry)) (now (receiver .entry)) (now (positions .entry)) (now (conditions .entry)) (now (capacity .entry)) (now (oldest .entry)) (now (held .entry)) (now (closed .entry))) (now (moves .entry)) (now (listing .entry)) at r (now (listing .exit)) ⌝ }
+    requires { ⌜ Printable used (arrays (now code) (now first) (now sender) (now receiver) (now positions) (now conditions) (now capacity) (now oldest) (now held) (now peak) (now closed)) (now moves) (now listing) at ⌝ }
+    ensures { λ r. ⌜ PrintedAll used (arrays (now (code .entry)) (now (first .entry)) (now (sender .entry)) (now (receiver .entry)) (now (positions .entry)) (now (conditions .entry)) (now (capacity .entry)) (now (oldest .entry)) (now (held .entry)) (now (peak .entry)) (now (closed .entry))) (now (moves .entry)) (now (listing .entry)) at r (now (listing .exit)) ⌝ }
 {
     let mut place = at;
     let mut p: usize = 0;
@@ -226,6 +234,7 @@ pub fn print_processes(
             capacity,
             oldest,
             held,
+            peak,
             closed,
         );
         let waiting = wait.waiting;

@@ -73,7 +73,7 @@ abbrev standing : ℕ → ℕ → Standing
 standing position moves = record { position = position; condition = Live; moves = moves }
 
 abbrev full : ℕ → Channel
-full capacity = record { capacity = capacity; oldest = 0; held = capacity; closed = false }
+full capacity = record { capacity = capacity; oldest = 0; held = capacity; peak = capacity; closed = false }
 
 abbrev pub stuck : ℕ → ℕ → List ℤ → World
 stuck capacity ticks cells =

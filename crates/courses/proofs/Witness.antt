@@ -170,7 +170,7 @@ brim =
       network = pair;
       registers = (pos 5 ∷ replicate 7 (pos 0)) ++ (pos 7 ∷ replicate 7 (pos 0)) ++ replicate 112 (pos 0);
       processes = record { position = 2; condition = Live; moves = 257 } ∷ record { position = 2; condition = Live; moves = 257 } ∷ replicate 14 noStanding;
-      channels = record { capacity = 256; oldest = 0; held = 256; closed = false } ∷ record { capacity = 256; oldest = 0; held = 256; closed = false } ∷ replicate 30 noChannel;
+      channels = record { capacity = 256; oldest = 0; held = 256; peak = 256; closed = false } ∷ record { capacity = 256; oldest = 0; held = 256; peak = 256; closed = false } ∷ replicate 30 noChannel;
       accepted = 510;
     })
     cells

@@ -21,11 +21,11 @@ use Rattle.drives.specs.Parts.{Ruled}
 
 -- the rule after a round
 pub record RuledIn (moved used : ℕ) (v : Arrays) (r : After) (capacity′ : List ℕ) : Type 0 where
-  pub thirtyTwo : ThirtyTwo capacity′ (v .oldest) (v .held) (v .closed)
+  pub thirtyTwo : ThirtyTwo capacity′ (v .oldest) (v .held) (v .peak) (v .closed)
   pub few : r .enlarged ≤ 1
   pub leaves :
       (l : Lane) → Shows v l → soundOf l ≡ true → used ≡ l .network .processes
-      → Ruled l moved (r .next) (countBy (r .enlarged) (putChannels (channelsOf capacity′ (v .oldest) (v .held) (v .closed)) l)) (r .enlarged)
+      → Ruled l moved (r .next) (countBy (r .enlarged) (putChannels (channelsOf capacity′ (v .oldest) (v .held) (v .peak) (v .closed)) l)) (r .enlarged)
 
 -- the rounds of a drive
 pub record RoundsIn (most used : ℕ) (f : Fixed) (accepted : ℕ) (t : Parts) (cells : List ℤ) (r : Drove) (t′ : Parts) (cells′ : List ℤ) : Type 0 where

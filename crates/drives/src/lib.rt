@@ -89,10 +89,11 @@ fn next_in(
     capacity: &mut [u16; 32],
     oldest: &[u16; 32],
     held: &[u16; 32],
+    peak: &[u16; 32],
     closed: &[bool; 32],
 ) -> After
-    requires { ⌜ Relievable used (arrays (now code) (now first) (now sender) (now receiver) (now positions) (now conditions) (now capacity) (now oldest) (now held) (now closed)) ⌝ }
-    ensures { λ r. ⌜ RuledIn moved used (arrays (now (code .entry)) (now (first .entry)) (now (sender .entry)) (now (receiver .entry)) (now (positions .entry)) (now (conditions .entry)) (now (capacity .entry)) (now (oldest .entry)) (now (held .entry)) (now (closed .entry))) r (now (capacity .exit)) ⌝ }
+    requires { ⌜ Relievable used (arrays (now code) (now first) (now sender) (now receiver) (now positions) (now conditions) (now capacity) (now oldest) (now held) (now peak) (now closed)) ⌝ }
+    ensures { λ r. ⌜ RuledIn moved used (arrays (now (code .entry)) (now (first .entry)) (now (sender .entry)) (now (receiver .entry)) (now (positions .entry)) (now (conditions .entry)) (now (capacity .entry)) (now (oldest .entry)) (now (held .entry)) (now (peak .entry)) (now (closed .entry))) r (now (capacity .exit)) ⌝ }
 {
     let answer = schedule::relieve_in(
         used,
@@ -105,6 +106,7 @@ fn next_in(
         capacity,
         oldest,
         held,
+        peak,
         closed,
     );
     match answer {
@@ -170,11 +172,12 @@ fn rounds_in(
     capacity: &mut [u16; 32],
     oldest: &mut [u16; 32],
     held: &mut [u16; 32],
+    peak: &mut [u16; 32],
     closed: &mut [bool; 32],
     cells: &mut [i32],
 ) -> Drove
-    requires { ⌜ Playable used (fixed (now code) (now first) (now sender) (now receiver) channels) (parts (now registers) (now positions) (now conditions) (now moves) (now capacity) (now oldest) (now held) (now closed)) (now cells) × (used * most ≤ 18446744073709551615) ⌝ }
-    ensures { λ r. ⌜ RoundsIn most used (fixed (now (code .entry)) (now (first .entry)) (now (sender .entry)) (now (receiver .entry)) channels) accepted (parts (now (registers .entry)) (now (positions .entry)) (now (conditions .entry)) (now (moves .entry)) (now (capacity .entry)) (now (oldest .entry)) (now (held .entry)) (now (closed .entry))) (now (cells .entry)) r (parts (now (registers .exit)) (now (positions .exit)) (now (conditions .exit)) (now (moves .exit)) (now (capacity .exit)) (now (oldest .exit)) (now (held .exit)) (now (closed .exit))) (now (cells .exit)) ⌝ }
+    requires { ⌜ Playable used (fixed (now code) (now first) (now sender) (now receiver) channels) (parts (now registers) (now positions) (now conditions) (now moves) (now capacity) (now oldest) (now held) (now peak) (now closed)) (now cells) × (used * most ≤ 18446744073709551615) ⌝ }
+    ensures { λ r. ⌜ RoundsIn most used (fixed (now (code .entry)) (now (first .entry)) (now (sender .entry)) (now (receiver .entry)) channels) accepted (parts (now (registers .entry)) (now (positions .entry)) (now (conditions .entry)) (now (moves .entry)) (now (capacity .entry)) (now (oldest .entry)) (now (held .entry)) (now (peak .entry)) (now (closed .entry))) (now (cells .entry)) r (parts (now (registers .exit)) (now (positions .exit)) (now (conditions .exit)) (now (moves .exit)) (now (capacity .exit)) (now (oldest .exit)) (now (held .exit)) (now (peak .exit)) (now (closed .exit))) (now (cells .exit)) ⌝ }
 {
     if most == 0 {
         return driven(End::Spent, 0, 0, accepted);
@@ -196,6 +199,7 @@ fn rounds_in(
         capacity,
         oldest,
         held,
+        peak,
         closed,
         cells,
     );
@@ -211,6 +215,7 @@ fn rounds_in(
         capacity,
         oldest,
         held,
+        peak,
         closed,
     );
     let enlarged = ran.enlarged + after.enlarged;
@@ -239,8 +244,9 @@ fn rounds(lane: Lane, cells: &mut [i32], most: u64) -> DriveResult
     let mut capacity = [0u16; 32];
     let mut oldest = [0u16; 32];
     let mut held = [0u16; 32];
+    let mut peak = [0u16; 32];
     let mut closed = [false; 32];
-    lane_parts::part_channels(records, &mut capacity, &mut oldest, &mut held, &mut closed);
+    lane_parts::part_channels(records, &mut capacity, &mut oldest, &mut held, &mut peak, &mut closed);
     let r = rounds_in(
         most,
         lane.accepted,
@@ -257,11 +263,12 @@ fn rounds(lane: Lane, cells: &mut [i32], most: u64) -> DriveResult
         &mut capacity,
         &mut oldest,
         &mut held,
+        &mut peak,
         &mut closed,
         cells,
     );
     let standings = lane_parts::join_processes(&positions, &conditions, &moves);
-    let joined = lane_parts::join_channels(&capacity, &oldest, &held, &closed);
+    let joined = lane_parts::join_channels(&capacity, &oldest, &held, &peak, &closed);
     let mut l = lane;
     l.registers = registers;
     l.processes = standings;

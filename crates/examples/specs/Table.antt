@@ -21,7 +21,7 @@ use Rattle.lane.specs.Calls.{Told, moved, waitingEmpty, waitingFull, Called, ca
 use Rattle.relief.specs.Relief as relief
 use Rattle.relief.specs.Relief.{Relief, relieveOf}
 use Rattle.block_check.specs.Crc.{crc}
-use Rattle.examples.specs.Written.{minus, op, Wire, wire, plan, process, _of_, closed, Board, board, laneOf}
+use Rattle.examples.specs.Written.{minus, op, Wire, wire, plan, process, _of_, closed, emptied, Board, board, laneOf}
 
 -- ---- rows
 pub data Question : Type 0 where
@@ -127,9 +127,9 @@ table cells =
     ∷ step (op 7 0 1 2) (pos 9 ∷ minus 7 ∷ pos 2 ∷ []) ⇒ becomes (pos 1 ∷ minus 7 ∷ pos 2 ∷ [])
     -- e) "by 0: faulted, outputs closed."
     ∷ pick 0 (divider 6 Live 0 (0 of 1 ∷ 1 of 1 ∷ 1 of 1 ∷ []))
-    ⇒ leaves moved (divider 6 Faulted 1 (closed (0 of 1) ∷ closed (1 of 1) ∷ 0 of 1 ∷ [])) cells
+    ⇒ leaves moved (divider 6 Faulted 1 (closed (0 of 1) ∷ closed (1 of 1) ∷ emptied (1 of 1) ∷ [])) cells
     ∷ pick 0 (divider 7 Live 0 (0 of 1 ∷ 1 of 1 ∷ 1 of 1 ∷ []))
-    ⇒ leaves moved (divider 7 Faulted 1 (closed (0 of 1) ∷ closed (1 of 1) ∷ 0 of 1 ∷ [])) cells
+    ⇒ leaves moved (divider 7 Faulted 1 (closed (0 of 1) ∷ closed (1 of 1) ∷ emptied (1 of 1) ∷ [])) cells
     -- f) "empty and open waits."
     ∷ pick 0 (receiver 0 0 (0 of 1)) ⇒ leaves (waitingEmpty 0) (receiver 0 0 (0 of 1)) cells
     -- g) "empty and closed jumps, register kept."

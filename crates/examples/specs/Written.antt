@@ -76,13 +76,16 @@ abbrev pub process : List ℤ → ℕ → Condition → ℕ → Process
 process registers position condition moves =
     record { registers = filled 8 (pos 0) registers; position = position; condition = condition; moves = moves }
 
--- an open channel that holds so many messages of so many, the oldest at place 0; the same closed
+-- an open channel that holds so many messages of so many and never held more, the oldest at place 0; the same closed; one that was emptied
 infix 90 _of_
 abbrev pub _of_ : ℕ → ℕ → Channel
-held of capacity = record { capacity = capacity; oldest = 0; held = held; closed = false }
+held of capacity = record { capacity = capacity; oldest = 0; held = held; peak = held; closed = false }
 
 abbrev pub closed : Channel → Channel
-closed h = record { capacity = h .capacity; oldest = h .oldest; held = h .held; closed = true }
+closed h = record { capacity = h .capacity; oldest = h .oldest; held = h .held; peak = h .peak; closed = true }
+
+abbrev pub emptied : Channel → Channel
+emptied h = record { capacity = h .capacity; oldest = h .oldest; held = 0; peak = h .peak; closed = h .closed }
 
 -- the network, its processes, its channels, and how many calls were accepted
 pub record Board : Type 0 where

@@ -41,6 +41,8 @@ module _ (s r : Bool) (h : Channel) (g : ChannelSound s r h) where
         low = g .low;
         high = g .high;
         place = g .place;
+        reached = omega arith;
+        topped = omega (arith, g .within, g .topped);
         shut = g .shut;
         drained = λ e. absurd (true≢false (sym e ∙ live));
       }
@@ -53,13 +55,25 @@ module _ (s r : Bool) (h : Channel) (g : ChannelSound s r h) where
         low = g .low;
         high = g .high;
         place = omega arith;
+        reached = omega (arith, g .reached);
+        topped = g .topped;
         shut = g .shut;
         drained = λ e. omega (arith, g .drained e);
       }
 
   -- a closing
   pub close-one : ChannelSound s r (closeOne h)
-  close-one = record { within = g .within; low = g .low; high = g .high; place = g .place; shut = λ e. refl; drained = g .drained }
+  close-one =
+      record {
+        within = g .within;
+        low = g .low;
+        high = g .high;
+        place = g .place;
+        reached = g .reached;
+        topped = g .topped;
+        shut = λ e. refl;
+        drained = g .drained;
+      }
 
 -- ---- a channel: one that is sound where it is used, and as it was where it is not
 pub put-channel-sound :
@@ -161,6 +175,8 @@ module _ (p : ℕ) (q : Process) (l : Lane) (shaped : Shaped l) (s : Sound l) (b
         low = old .low;
         high = old .high;
         place = old .place;
+        reached = emptied (receives n p k) (h .held) (h .peak) (old .reached);
+        topped = old .topped;
         shut =
             after-set (λ (x : Standing). isEnded (x .condition) ≡ true → cond (sends n p k) true (h .closed) ≡ true) (l .processes) p (senderOf n k) (split q)
             noStanding

@@ -51,6 +51,8 @@ pub record ChannelSound (senderEnded receiverEnded : Bool) (h : Channel) : Type 
   pub low : 1 ≤ h .capacity
   pub high : h .capacity ≤ 256
   pub place : h .oldest < 256
+  pub reached : h .held ≤ h .peak
+  pub topped : h .peak ≤ h .capacity
   pub shut : senderEnded ≡ true → h .closed ≡ true
   pub drained : receiverEnded ≡ true → h .held ≡ 0
 
@@ -59,7 +61,9 @@ unfolding channelSound
 channel-says s r h e =
     let d = both-true _ (not r || eqb (h .held) 0) e in
     let c = both-true _ (not s || h .closed) (d .0) in
-    let o = both-true _ (leb (h .oldest) 255) (c .0) in
+    let t = both-true _ (leb (h .peak) (h .capacity)) (c .0) in
+    let m = both-true _ (leb (h .held) (h .peak)) (t .0) in
+    let o = both-true _ (leb (h .oldest) 255) (m .0) in
     let b = both-true (leb (h .held) (h .capacity)) _ (o .0) in
     let w = between-true 1 (h .capacity) 256 (b .1) in
     record {
@@ -67,6 +71,8 @@ channel-says s r h e =
       low = w .0;
       high = w .1;
       place = omega (arith, leb-true (h .oldest) 255 (o .1));
+      reached = leb-true _ _ (m .1);
+      topped = leb-true _ _ (t .1);
       shut = implied s _ (c .1);
       drained = λ q. eqb-true _ _ (implied r _ (d .1) q);
     }
@@ -78,6 +84,8 @@ says-channel s r h g =
       le-leb (h .held) (h .capacity) (g .within),
       true-between 1 (h .capacity) 256 (g .low) (g .high),
       le-leb (h .oldest) 255 (omega arith),
+      le-leb (h .held) (h .peak) (g .reached),
+      le-leb (h .peak) (h .capacity) (g .topped),
       implies s (h .closed) (g .shut),
       implies r (eqb (h .held) 0) (λ q. eq-eqb _ _ (g .drained q)),
     )
@@ -86,8 +94,8 @@ says-channel s r h g =
 abbrev standing : ℕ → Condition → ℕ → Standing
 standing position condition moves = record { position = position; condition = condition; moves = moves }
 
-abbrev channel : ℕ → ℕ → ℕ → Bool → Channel
-channel capacity oldest held closed = record { capacity = capacity; oldest = oldest; held = held; closed = closed }
+abbrev channel : ℕ → ℕ → ℕ → ℕ → Bool → Channel
+channel capacity oldest held peak closed = record { capacity = capacity; oldest = oldest; held = held; peak = peak; closed = closed }
 
 not-ended : (k : Condition) → isEnded k ≡ false → k ≡ Live
 not-ended Live e = refl
@@ -103,15 +111,17 @@ standing-zero s e =
     let d = both-true (eqb (s .position) 0) (not (isEnded (s .condition))) (m .0) in
     standing-is _ _ _ (eqb-true _ _ (d .0)) (not-ended _ (not-true _ (d .1))) (eqb-true _ _ (m .1))
 
-channel-is : (capacity oldest held : ℕ) (closed : Bool) → capacity ≡ 0 → oldest ≡ 0 → held ≡ 0 → closed ≡ false → channel capacity oldest held closed ≡ noChannel
-channel-is capacity oldest held closed p q r t = rw (p, q, r, t)
+channel-is : (capacity oldest held peak : ℕ) (closed : Bool) → capacity ≡ 0 → oldest ≡ 0 → held ≡ 0 → peak ≡ 0 → closed ≡ false
+    → channel capacity oldest held peak closed ≡ noChannel
+channel-is capacity oldest held peak closed p q r m t = rw (p, q, r, m, t)
 
 pub channel-zero : (h : Channel) → channelZero h ≡ true → h ≡ noChannel
 channel-zero h e =
     let c = both-true _ (not (h .closed)) e in
-    let m = both-true _ (eqb (h .held) 0) (c .0) in
+    let t = both-true _ (eqb (h .peak) 0) (c .0) in
+    let m = both-true _ (eqb (h .held) 0) (t .0) in
     let o = both-true (eqb (h .capacity) 0) (eqb (h .oldest) 0) (m .0) in
-    channel-is _ _ _ _ (eqb-true _ _ (o .0)) (eqb-true _ _ (o .1)) (eqb-true _ _ (m .1)) (not-true _ (c .1))
+    channel-is _ _ _ _ _ (eqb-true _ _ (o .0)) (eqb-true _ _ (o .1)) (eqb-true _ _ (m .1)) (eqb-true _ _ (t .1)) (not-true _ (c .1))
 
 pub null-is : (z : ℤ) → isNull z ≡ true → z ≡ pos 0
 null-is (pos zero) e = refl
@@ -208,11 +218,11 @@ module _ (n : Network) (e : passes n ≡ true) where
             λ c h.
             let b = capacity-right c h in
             rw (table-at (freshChannel n) 32 c noChannel (omega (arith, passed n e .channels-high)))
-            (record { within = omega arith; low = b .0; high = b .1; place = omega arith; shut = λ q. absurd (live (senderOf n c) q); drained = λ q. refl });
+            (record { within = omega arith; low = b .0; high = b .1; place = omega arith; reached = omega arith; topped = omega arith; shut = λ q. absurd (live (senderOf n c) q); drained = λ q. refl });
         standings = λ p h l. same-at 16 p noStanding;
         registers = λ r h l. same-at 128 r (pos 0);
         unused =
-            λ c h l. table-at (freshChannel n) 32 c noChannel l ∙ channel-is _ _ _ _ (capacity-zero c h l) refl refl refl;
+            λ c h l. table-at (freshChannel n) 32 c noChannel l ∙ channel-is _ _ _ _ _ (capacity-zero c h l) refl refl refl refl;
       }
 
 pub fresh-sound : (n : Network) → passes n ≡ true → soundOf (freshOf n) ≡ true

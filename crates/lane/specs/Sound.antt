@@ -1,4 +1,4 @@
--- Document 01, below the refusal table: when a lane is sound (16).
+-- Document 01, below the refusal table: when a lane is sound (16); document 02, request 6: the highest filling of a channel.
 -- Assumes nothing.
 use mathlib.Core.Bool.{Bool, true, false, not, _&&_, _||_}
 use mathlib.Core.List.{List}
@@ -18,11 +18,12 @@ use Rattle.lane.specs.State.{standingOf, isEnded, endedAt, channelOf}
 abbrev pub positionSound : Lane → ℕ → Bool
 positionSound l p = ltb (standingOf l p .position) (countOf (l .network) p)
 
--- "held at most capacity, capacity 1 to 256, oldest at most 255; a sender that ended has closed; a receiver that ended holds 0"; the sender has
--- ended, the receiver has ended, the channel
+-- "held at most capacity, capacity 1 to 256, oldest at most 255; a sender that ended has closed; a receiver that ended holds 0"; request 6: "It is at least
+-- the number held and at most the capacity, and a lane failing that is unsound"; the sender has ended, the receiver has ended, the channel
 unfoldable pub channelSound : Bool → Bool → Channel → Bool
 channelSound senderEnded receiverEnded h =
     leb (h .held) (h .capacity) && between 1 (h .capacity) 256 && leb (h .oldest) 255
+    && leb (h .held) (h .peak) && leb (h .peak) (h .capacity)
     && (not senderEnded || h .closed)
     && (not receiverEnded || eqb (h .held) 0)
 
@@ -34,7 +35,7 @@ abbrev pub standingZero : Standing → Bool
 standingZero s = eqb (s .position) 0 && not (isEnded (s .condition)) && eqb (s .moves) 0
 
 abbrev pub channelZero : Channel → Bool
-channelZero h = eqb (h .capacity) 0 && eqb (h .oldest) 0 && eqb (h .held) 0 && not (h .closed)
+channelZero h = eqb (h .capacity) 0 && eqb (h .oldest) 0 && eqb (h .held) 0 && eqb (h .peak) 0 && not (h .closed)
 
 abbrev pub positions : Lane → Bool
 positions l = isGood (firstBad (positionSound l) 0 (l .network .processes))

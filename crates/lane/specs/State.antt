@@ -106,9 +106,9 @@ noInstruction = record { op = 0; a = 0; b = 0; c = 0 }
 unfoldable pub standsAt : Network → ℕ → ℕ → Instruction
 standsAt n p position = cond (ltb position (countOf n p)) (instructionOf n (startOf n p + position)) noInstruction
 
--- ---- the lane at the start: "channels open and empty, oldest at place 0", capacity "at first the file's"
+-- ---- the lane at the start: "channels open and empty, oldest at place 0", capacity "at first the file's", none held "since the start"
 abbrev pub freshChannel : Network → ℕ → Channel
-freshChannel n c = record { capacity = capacityOf n c; oldest = 0; held = 0; closed = false }
+freshChannel n c = record { capacity = capacityOf n c; oldest = 0; held = 0; peak = 0; closed = false }
 
 unfoldable pub freshOf : Network → Lane
 freshOf n =

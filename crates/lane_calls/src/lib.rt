@@ -61,11 +61,12 @@ fn feed_there(lane: Lane, cells: &mut [i32], c: usize, v: i32) -> Fed
     let mut capacity = [0u16; 32];
     let mut oldest = [0u16; 32];
     let mut held = [0u16; 32];
+    let mut peak = [0u16; 32];
     let mut closed = [false; 32];
     let channels = lane.channels;
-    lane_parts::part_channels(channels, &mut capacity, &mut oldest, &mut held, &mut closed);
-    let answer = lent_calls::feed_in(c, v, gone, &capacity, &oldest, &mut held, &closed, cells);
-    let joined = lane_parts::join_channels(&capacity, &oldest, &held, &closed);
+    lane_parts::part_channels(channels, &mut capacity, &mut oldest, &mut held, &mut peak, &mut closed);
+    let answer = lent_calls::feed_in(c, v, gone, &capacity, &oldest, &mut held, &mut peak, &closed, cells);
+    let joined = lane_parts::join_channels(&capacity, &oldest, &held, &peak, &closed);
     let mut l = lane;
     l.channels = joined;
     call_parts::fed(l, answer)
@@ -93,11 +94,12 @@ fn close_there(lane: Lane, c: usize) -> Fed
     let mut capacity = [0u16; 32];
     let mut oldest = [0u16; 32];
     let mut held = [0u16; 32];
+    let mut peak = [0u16; 32];
     let mut closed = [false; 32];
     let channels = lane.channels;
-    lane_parts::part_channels(channels, &mut capacity, &mut oldest, &mut held, &mut closed);
-    let answer = lent_calls::close_in(c, &capacity, &oldest, &held, &mut closed);
-    let joined = lane_parts::join_channels(&capacity, &oldest, &held, &closed);
+    lane_parts::part_channels(channels, &mut capacity, &mut oldest, &mut held, &mut peak, &mut closed);
+    let answer = lent_calls::close_in(c, &capacity, &oldest, &held, &peak, &mut closed);
+    let joined = lane_parts::join_channels(&capacity, &oldest, &held, &peak, &closed);
     let mut l = lane;
     l.channels = joined;
     call_parts::fed(l, answer)
@@ -126,11 +128,12 @@ fn take_there(lane: Lane, cells: &[i32], c: usize) -> Taken
     let mut capacity = [0u16; 32];
     let mut oldest = [0u16; 32];
     let mut held = [0u16; 32];
+    let mut peak = [0u16; 32];
     let mut closed = [false; 32];
     let channels = lane.channels;
-    lane_parts::part_channels(channels, &mut capacity, &mut oldest, &mut held, &mut closed);
-    let answer = lent_calls::take_in(c, &capacity, &mut oldest, &mut held, &closed, cells);
-    let joined = lane_parts::join_channels(&capacity, &oldest, &held, &closed);
+    lane_parts::part_channels(channels, &mut capacity, &mut oldest, &mut held, &mut peak, &mut closed);
+    let answer = lent_calls::take_in(c, &capacity, &mut oldest, &mut held, &peak, &closed, cells);
+    let joined = lane_parts::join_channels(&capacity, &oldest, &held, &peak, &closed);
     let mut l = lane;
     l.channels = joined;
     call_parts::taken(l, answer)

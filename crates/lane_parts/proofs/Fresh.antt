@@ -20,7 +20,7 @@ standings-fresh = refl
 module _ (n : Network) where
   abbrev pub freshParts : Parts
   freshParts =
-      parts (replicate 128 (pos 0)) (replicate 16 0) (replicate 16 0) (replicate 16 0) (n .capacity) (replicate 32 0) (replicate 32 0) (replicate 32 false)
+      parts (replicate 128 (pos 0)) (replicate 16 0) (replicate 16 0) (replicate 16 0) (n .capacity) (replicate 32 0) (replicate 32 0) (replicate 32 0) (replicate 32 false)
 
   module _ (long : length (n .capacity) ≡ 32) where
     pub fresh-full : Full freshParts
@@ -28,15 +28,15 @@ module _ (n : Network) where
         record {
           file = length-replicate 128 (pos 0);
           sixteen = record { position = refl; condition = refl; move = refl };
-          thirtyTwo = record { room = long; place = refl; number = refl; shut = refl };
+          thirtyTwo = record { room = long; place = refl; number = refl; mark = refl; shut = refl };
         }
 
-    channels-fresh : channelsOf (n .capacity) (replicate 32 0) (replicate 32 0) (replicate 32 false) ≡ table 32 (freshChannel n)
+    channels-fresh : channelsOf (n .capacity) (replicate 32 0) (replicate 32 0) (replicate 32 0) (replicate 32 false) ≡ table 32 (freshChannel n)
     channels-fresh =
         table-is (freshChannel n) 32 noChannel _
-        (channels-length 32 (n .capacity) (replicate 32 0) (replicate 32 0) (replicate 32 false) long refl refl refl)
+        (channels-length 32 (n .capacity) (replicate 32 0) (replicate 32 0) (replicate 32 0) (replicate 32 false) long refl refl refl refl)
         (λ k h.
-        channel-at 32 (n .capacity) (replicate 32 0) (replicate 32 0) (replicate 32 false) long refl refl refl k
+        channel-at 32 (n .capacity) (replicate 32 0) (replicate 32 0) (replicate 32 0) (replicate 32 false) long refl refl refl refl k
         ∙ rw (same-at {A = ℕ} 32 k 0, same-at 32 k false))
 
     pub fresh-is : laneOf n 0 freshParts ≡ freshOf n

@@ -21,13 +21,13 @@ module _ (n : Network) (accepted : ℕ) {t : Parts} (full : Full t) where
       record {
         registers = full .file;
         processes = standings-length 16 _ _ _ (full .sixteen .position) (full .sixteen .condition) (full .sixteen .move);
-        channels = channels-length 32 _ _ _ _ (full .thirtyTwo .room) (full .thirtyTwo .place) (full .thirtyTwo .number) (full .thirtyTwo .shut);
+        channels = channels-length 32 _ _ _ _ _ (full .thirtyTwo .room) (full .thirtyTwo .place) (full .thirtyTwo .number) (full .thirtyTwo .mark) (full .thirtyTwo .shut);
       }
 
   pub stands : (p : ℕ) → standingOf (laneOf n accepted t) p ≡ standing (getD (t .positions) p 0) (getD (t .conditions) p 0) (getD (t .moves) p 0)
   stands p = standing-at 16 (t .positions) (t .conditions) (t .moves) (full .sixteen .position) (full .sixteen .condition) (full .sixteen .move) p
 
-  pub shown : {f : Fixed} → Lent n f → Shown f (t .positions) (t .conditions) (t .capacity) (t .oldest) (t .held) (t .closed) (laneOf n accepted t)
+  pub shown : {f : Fixed} → Lent n f → Shown f (t .positions) (t .conditions) (t .capacity) (t .oldest) (t .held) (t .peak) (t .closed) (laneOf n accepted t)
   shown lent =
       record {
         lent = lent;
@@ -46,7 +46,7 @@ pub whole :
     (l : Lane) (t : Parts)
     → t .registers ≡ l .registers
     → standingsOf (t .positions) (t .conditions) (t .moves) ≡ l .processes
-    → channelsOf (t .capacity) (t .oldest) (t .held) (t .closed) ≡ l .channels
+    → channelsOf (t .capacity) (t .oldest) (t .held) (t .peak) (t .closed) ≡ l .channels
     → laneOf (l .network) (l .accepted) t ≡ l
 whole l t e₁ e₂ e₃ = rw (e₁, e₂, e₃)
 

@@ -66,34 +66,35 @@ join-process {ps} {ks} {ms} s old a p h e c =
 -- ---- channels
 -- one channel more is taken apart
 pub part-channel :
-    (xs old : List Channel) {ns os hs : List ℕ} {cs : List Bool} (s : ThirtyTwo ns os hs cs) (c : ℕ) → c < 32
-    → Copied xs noChannel old c (channelsOf ns os hs cs)
+    (xs old : List Channel) {ns os hs ms : List ℕ} {cs : List Bool} (s : ThirtyTwo ns os hs ms cs) (c : ℕ) → c < 32
+    → Copied xs noChannel old c (channelsOf ns os hs ms cs)
     → Copied xs noChannel old (c + 1)
-    (channelsOf (set ns c (getD xs c noChannel .capacity)) (set os c (getD xs c noChannel .oldest)) (set hs c (getD xs c noChannel .held)) (set cs c (getD xs c noChannel .closed)))
-part-channel xs old {ns} {os} {hs} {cs} s c m f =
+    (channelsOf (set ns c (getD xs c noChannel .capacity)) (set os c (getD xs c noChannel .oldest)) (set hs c (getD xs c noChannel .held)) (set ms c (getD xs c noChannel .peak)) (set cs c (getD xs c noChannel .closed)))
+part-channel xs old {ns} {os} {hs} {ms} {cs} s c m f =
     let x : Channel = getD xs c noChannel in
-    rw (set-channels ns os hs cs c (x .capacity) (x .oldest) (x .held) (x .closed))
-    (filled-more (λ j. getD xs j noChannel) noChannel old c (channelsOf ns os hs cs) x
-    (omega (arith, channels-length 32 ns os hs cs (s .room) (s .place) (s .number) (s .shut)))
+    rw (set-channels ns os hs ms cs c (x .capacity) (x .oldest) (x .held) (x .peak) (x .closed))
+    (filled-more (λ j. getD xs j noChannel) noChannel old c (channelsOf ns os hs ms cs) x
+    (omega (arith, channels-length 32 ns os hs ms cs (s .room) (s .place) (s .number) (s .mark) (s .shut)))
     refl
     f)
 
 pub parted-channels :
-    (xs old : List Channel) {ns os hs : List ℕ} {cs : List Bool} (s : ThirtyTwo ns os hs cs) (c : ℕ) → 32 ≤ c → c ≤ 32 → length xs ≡ 32
-    → Copied xs noChannel old c (channelsOf ns os hs cs)
-    → channelsOf ns os hs cs ≡ xs
-parted-channels xs old {ns} {os} {hs} {cs} s c h m e f =
-    copied-all xs noChannel old c (channelsOf ns os hs cs)
-    (sym (f .long) ∙ channels-length 32 ns os hs cs (s .room) (s .place) (s .number) (s .shut) ∙ omega arith)
+    (xs old : List Channel) {ns os hs ms : List ℕ} {cs : List Bool} (s : ThirtyTwo ns os hs ms cs) (c : ℕ) → 32 ≤ c → c ≤ 32 → length xs ≡ 32
+    → Copied xs noChannel old c (channelsOf ns os hs ms cs)
+    → channelsOf ns os hs ms cs ≡ xs
+parted-channels xs old {ns} {os} {hs} {ms} {cs} s c h m e f =
+    copied-all xs noChannel old c (channelsOf ns os hs ms cs)
+    (sym (f .long) ∙ channels-length 32 ns os hs ms cs (s .room) (s .place) (s .number) (s .mark) (s .shut) ∙ omega arith)
     (omega arith)
     f
 
-pub keeps-channel : {ns os hs : List ℕ} {cs : List Bool} (s : ThirtyTwo ns os hs cs) (c a o h : ℕ) (d : Bool) → ThirtyTwo (set ns c a) (set os c o) (set hs c h) (set cs c d)
-keeps-channel {ns} {os} {hs} {cs} s c a o h d =
+pub keeps-channel : {ns os hs ms : List ℕ} {cs : List Bool} (s : ThirtyTwo ns os hs ms cs) (c a o h m : ℕ) (d : Bool) → ThirtyTwo (set ns c a) (set os c o) (set hs c h) (set ms c m) (set cs c d)
+keeps-channel {ns} {os} {hs} {ms} {cs} s c a o h m d =
     record {
       room = length-set ns c a ∙ s .room;
       place = length-set os c o ∙ s .place;
       number = length-set hs c h ∙ s .number;
+      mark = length-set ms c m ∙ s .mark;
       shut = length-set cs c d ∙ s .shut;
     }
 

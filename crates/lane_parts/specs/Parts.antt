@@ -22,8 +22,8 @@ conditionOf (suc (suc n)) = Faulted
 abbrev pub standing : ℕ → ℕ → ℕ → Standing
 standing position condition moves = record { position = position; condition = conditionOf condition; moves = moves }
 
-abbrev pub channel : ℕ → ℕ → ℕ → Bool → Channel
-channel capacity oldest held closed = record { capacity = capacity; oldest = oldest; held = held; closed = closed }
+abbrev pub channel : ℕ → ℕ → ℕ → ℕ → Bool → Channel
+channel capacity oldest held peak closed = record { capacity = capacity; oldest = oldest; held = held; peak = peak; closed = closed }
 
 -- the processes with these positions, conditions and moves
 unfoldable pub standingsOf : List ℕ → List ℕ → List ℕ → List Standing
@@ -32,13 +32,14 @@ standingsOf (p ∷ ps) [] ms = []
 standingsOf (p ∷ ps) (k ∷ ks) [] = []
 standingsOf (p ∷ ps) (k ∷ ks) (m ∷ ms) = standing p k m ∷ standingsOf ps ks ms
 
--- the channels with these capacities, places of the oldest, numbers held, and closed or open
-unfoldable pub channelsOf : List ℕ → List ℕ → List ℕ → List Bool → List Channel
-channelsOf [] os hs cs = []
-channelsOf (n ∷ ns) [] hs cs = []
-channelsOf (n ∷ ns) (o ∷ os) [] cs = []
-channelsOf (n ∷ ns) (o ∷ os) (h ∷ hs) [] = []
-channelsOf (n ∷ ns) (o ∷ os) (h ∷ hs) (c ∷ cs) = channel n o h c ∷ channelsOf ns os hs cs
+-- the channels with these capacities, places of the oldest, numbers held, highest fillings, and closed or open
+unfoldable pub channelsOf : List ℕ → List ℕ → List ℕ → List ℕ → List Bool → List Channel
+channelsOf [] os hs ms cs = []
+channelsOf (n ∷ ns) [] hs ms cs = []
+channelsOf (n ∷ ns) (o ∷ os) [] ms cs = []
+channelsOf (n ∷ ns) (o ∷ os) (h ∷ hs) [] cs = []
+channelsOf (n ∷ ns) (o ∷ os) (h ∷ hs) (m ∷ ms) [] = []
+channelsOf (n ∷ ns) (o ∷ os) (h ∷ hs) (m ∷ ms) (c ∷ cs) = channel n o h m c ∷ channelsOf ns os hs ms cs
 
 -- the lengths of the arrays: a function to which an array is lent is not told them
 pub record Sixteen (positions conditions moves : List ℕ) : Type 0 where
@@ -46,10 +47,11 @@ pub record Sixteen (positions conditions moves : List ℕ) : Type 0 where
   pub condition : length conditions ≡ 16
   pub move : length moves ≡ 16
 
-pub record ThirtyTwo (capacity oldest held : List ℕ) (closed : List Bool) : Type 0 where
+pub record ThirtyTwo (capacity oldest held peak : List ℕ) (closed : List Bool) : Type 0 where
   pub room : length capacity ≡ 32
   pub place : length oldest ≡ 32
   pub number : length held ≡ 32
+  pub mark : length peak ≡ 32
   pub shut : length closed ≡ 32
 
 -- a network's lane with these registers, processes and channels
@@ -66,22 +68,33 @@ pub record Parts : Type 0 where
   pub capacity : List ℕ
   pub oldest : List ℕ
   pub held : List ℕ
+  pub peak : List ℕ
   pub closed : List Bool
 
-abbrev pub parts : List ℤ → List ℕ → List ℕ → List ℕ → List ℕ → List ℕ → List ℕ → List Bool → Parts
-parts registers positions conditions moves capacity oldest held closed =
-    record { registers = registers; positions = positions; conditions = conditions; moves = moves; capacity = capacity; oldest = oldest; held = held; closed = closed }
+abbrev pub parts : List ℤ → List ℕ → List ℕ → List ℕ → List ℕ → List ℕ → List ℕ → List ℕ → List Bool → Parts
+parts registers positions conditions moves capacity oldest held peak closed =
+    record {
+      registers = registers;
+      positions = positions;
+      conditions = conditions;
+      moves = moves;
+      capacity = capacity;
+      oldest = oldest;
+      held = held;
+      peak = peak;
+      closed = closed;
+    }
 
 -- their lengths
 pub record Full (t : Parts) : Type 0 where
   pub file : length (t .registers) ≡ 128
   pub sixteen : Sixteen (t .positions) (t .conditions) (t .moves)
-  pub thirtyTwo : ThirtyTwo (t .capacity) (t .oldest) (t .held) (t .closed)
+  pub thirtyTwo : ThirtyTwo (t .capacity) (t .oldest) (t .held) (t .peak) (t .closed)
 
 -- the lane of a network that they are, with its count of accepted calls
 abbrev pub laneOf : Network → ℕ → Parts → Lane
 laneOf n accepted t =
-    laneWith n accepted (t .registers) (standingsOf (t .positions) (t .conditions) (t .moves)) (channelsOf (t .capacity) (t .oldest) (t .held) (t .closed))
+    laneWith n accepted (t .registers) (standingsOf (t .positions) (t .conditions) (t .moves)) (channelsOf (t .capacity) (t .oldest) (t .held) (t .peak) (t .closed))
 
 -- the part of a network that is lent
 pub record Fixed : Type 0 where

@@ -14,15 +14,15 @@ abbrev pub Conditions : List ℕ → Lane → Type 0
 Conditions conditions l = (p : ℕ) → standingOf l p .condition ≡ conditionOf (getD conditions p 0)
 
 -- these are l's channels
-abbrev pub Channels : List ℕ → List ℕ → List ℕ → List Bool → Lane → Type 0
-Channels capacity oldest held closed l = l .channels ≡ channelsOf capacity oldest held closed
+abbrev pub Channels : List ℕ → List ℕ → List ℕ → List ℕ → List Bool → Lane → Type 0
+Channels capacity oldest held peak closed l = l .channels ≡ channelsOf capacity oldest held peak closed
 
 -- all that says what a process waits for: l's network, where its processes stand, and its channels
-pub record Shown (f : Fixed) (positions conditions capacity oldest held : List ℕ) (closed : List Bool) (l : Lane) : Type 0 where
+pub record Shown (f : Fixed) (positions conditions capacity oldest held peak : List ℕ) (closed : List Bool) (l : Lane) : Type 0 where
   pub lent : Lent (l .network) f
   pub position : (p : ℕ) → standingOf l p .position ≡ getD positions p 0
   pub condition : Conditions conditions l
-  pub channel : Channels capacity oldest held closed l
+  pub channel : Channels capacity oldest held peak closed l
 
 -- l with another count of accepted calls, which is not among the arrays
 abbrev pub countedAs : ℕ → Lane → Lane

@@ -48,21 +48,23 @@ pub fn ended_at(e: u8, conditions: &[u8; 16]) -> bool
     false
 }
 
-// The record of channel c, made from its four numbers.
+// The record of channel c, made from its five numbers.
 pub fn channel_at(
     c: usize,
     capacity: &[u16; 32],
     oldest: &[u16; 32],
     held: &[u16; 32],
+    peak: &[u16; 32],
     closed: &[bool; 32],
 ) -> Channel
-    requires { ⌜ (c < 32) × ThirtyTwo (now capacity) (now oldest) (now held) (now closed) ⌝ }
-    ensures { λ r. ⌜ r ≡ getD (channelsOf (now (capacity .entry)) (now (oldest .entry)) (now (held .entry)) (now (closed .entry))) c noChannel ⌝ }
+    requires { ⌜ (c < 32) × ThirtyTwo (now capacity) (now oldest) (now held) (now peak) (now closed) ⌝ }
+    ensures { λ r. ⌜ r ≡ getD (channelsOf (now (capacity .entry)) (now (oldest .entry)) (now (held .entry)) (now (peak .entry)) (now (closed .entry))) c noChannel ⌝ }
 {
     Channel {
         capacity: capacity[c],
         oldest: oldest[c],
         held: held[c],
+        peak: peak[c],
         closed: closed[c],
     }
 }
@@ -100,16 +102,17 @@ pub fn part_processes(
     }
 }
 
-// The channels of a lane into four arrays.
+// The channels of a lane into five arrays.
 pub fn part_channels(
     channels: [Channel; 32],
     capacity: &mut [u16; 32],
     oldest: &mut [u16; 32],
     held: &mut [u16; 32],
+    peak: &mut [u16; 32],
     closed: &mut [bool; 32],
 )
-    requires { ⌜ ThirtyTwo (now capacity) (now oldest) (now held) (now closed) ⌝ }
-    ensures { λ u. ⌜ (channelsOf (now (capacity .exit)) (now (oldest .exit)) (now (held .exit)) (now (closed .exit)) ≡ channels) × ThirtyTwo (now (capacity .exit)) (now (oldest .exit)) (now (held .exit)) (now (closed .exit)) ⌝ }
+    requires { ⌜ ThirtyTwo (now capacity) (now oldest) (now held) (now peak) (now closed) ⌝ }
+    ensures { λ u. ⌜ (channelsOf (now (capacity .exit)) (now (oldest .exit)) (now (held .exit)) (now (peak .exit)) (now (closed .exit)) ≡ channels) × ThirtyTwo (now (capacity .exit)) (now (oldest .exit)) (now (held .exit)) (now (peak .exit)) (now (closed .exit)) ⌝ }
 {
     let mut c = 0;
     while c < 32 {
@@ -117,6 +120,7 @@ pub fn part_channels(
         capacity[c] = channel.capacity;
         oldest[c] = channel.oldest;
         held[c] = channel.held;
+        peak[c] = channel.peak;
         closed[c] = channel.closed;
         c += 1;
     }
@@ -161,25 +165,27 @@ pub fn join_processes(
     processes
 }
 
-// The channels with these capacities, places of the oldest, numbers held, and closed or open.
+// The channels with these capacities, places of the oldest, numbers held, highest fillings, and closed or open.
 pub fn join_channels(
     capacity: &[u16; 32],
     oldest: &[u16; 32],
     held: &[u16; 32],
+    peak: &[u16; 32],
     closed: &[bool; 32],
 ) -> [Channel; 32]
-    requires { ⌜ ThirtyTwo (now capacity) (now oldest) (now held) (now closed) ⌝ }
-    ensures { λ r. ⌜ r ≡ channelsOf (now (capacity .entry)) (now (oldest .entry)) (now (held .entry)) (now (closed .entry)) ⌝ }
+    requires { ⌜ ThirtyTwo (now capacity) (now oldest) (now held) (now peak) (now closed) ⌝ }
+    ensures { λ r. ⌜ r ≡ channelsOf (now (capacity .entry)) (now (oldest .entry)) (now (held .entry)) (now (peak .entry)) (now (closed .entry)) ⌝ }
 {
     let mut channels = [Channel {
         capacity: 0,
         oldest: 0,
         held: 0,
+        peak: 0,
         closed: false,
     }; 32];
     let mut c = 0;
     while c < 32 {
-        channels[c] = channel_at(c, capacity, oldest, held, closed);
+        channels[c] = channel_at(c, capacity, oldest, held, peak, closed);
         c += 1;
     }
     channels

@@ -30,7 +30,8 @@ regroup false d e = refl
 
 channel-parts : (s r : Bool) (h : Channel) → channelSound s r h ≡ (channelSound false false h && ((not s || h .closed) && (not r || eqb (h .held) 0)))
 unfolding channelSound
-channel-parts s r h = regroup (leb (h .held) (h .capacity) && between 1 (h .capacity) 256 && leb (h .oldest) 255) (not s || h .closed) (not r || eqb (h .held) 0)
+channel-parts s r h =
+    regroup (leb (h .held) (h .capacity) && between 1 (h .capacity) 256 && leb (h .oldest) 255 && leb (h .held) (h .peak) && leb (h .peak) (h .capacity)) (not s || h .closed) (not r || eqb (h .held) 0)
 
 -- ---- the ends of a channel whose record is right
 pub ends-right : (sender receiver capacity processes : ℕ) → endsRight sender receiver capacity processes ≡ true → (endRight sender processes ≡ true) × (endRight receiver processes ≡ true)

@@ -12,14 +12,15 @@ ghost use Rattle.base.specs.Lists.{table};
 ghost use Rattle.lane.specs.State.{freshChannel, freshOf};
 ghost use Rattle.lane.specs.Sound.{unusedStandings, unusedRegisters, unusedChannels, soundOf};
 
-// A channel at the start: open and empty, the oldest at place 0.
+// A channel at the start: open and empty, none held before, the oldest at place 0.
 fn fresh_channel(capacity: u16) -> Channel
-    ensures { λ r. ⌜ r ≡ record { capacity = capacity; oldest = 0; held = 0; closed = false } ⌝ }
+    ensures { λ r. ⌜ r ≡ record { capacity = capacity; oldest = 0; held = 0; peak = 0; closed = false } ⌝ }
 {
     Channel {
         capacity,
         oldest: 0,
         held: 0,
+        peak: 0,
         closed: false,
     }
 }

@@ -27,8 +27,8 @@ module _ {c : ℕ} (l : Lane) (sound : soundOf l ≡ true) (there : c < l .netwo
   pub low : c < 32
   low = omega (arith, there, passed (l .network) (sound-says l sound .passed) .channels-high)
 
-  module _ {capacity oldest held : List ℕ} {shut : List Bool} {cells : List ℤ} (t : ThirtyTwo capacity oldest held shut) (e : Channels capacity oldest held shut l) (long : length cells ≡ 8192) where
-    pub feedable : Feedable c capacity oldest held shut cells
+  module _ {capacity oldest held peak : List ℕ} {shut : List Bool} {cells : List ℤ} (t : ThirtyTwo capacity oldest held peak shut) (e : Channels capacity oldest held peak shut l) (long : length cells ≡ 8192) where
+    pub feedable : Feedable c capacity oldest held peak shut cells
     feedable =
         record {
           low = low;
@@ -37,7 +37,7 @@ module _ {c : ℕ} (l : Lane) (sound : soundOf l ≡ true) (there : c < l .netwo
           long = long;
         }
 
-    pub takeable : Takeable c capacity oldest held shut cells
+    pub takeable : Takeable c capacity oldest held peak shut cells
     takeable =
         record {
           low = low;

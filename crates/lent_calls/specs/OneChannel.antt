@@ -27,38 +27,38 @@ counts theEnd l = count l
 counts (refused k) l = l
 
 -- what a call that was answered so leaves of lane l, where the channels now are these
-abbrev pub leaves : Told → List ℕ → List ℕ → List ℕ → List Bool → Lane → List ℤ → Called
-leaves told capacity oldest held closed l cells = called told (world (counts told (putChannels (channelsOf capacity oldest held closed) l)) cells)
+abbrev pub leaves : Told → List ℕ → List ℕ → List ℕ → List ℕ → List Bool → Lane → List ℤ → Called
+leaves told capacity oldest held peak closed l cells = called told (world (counts told (putChannels (channelsOf capacity oldest held peak closed) l)) cells)
 
 -- ---- feed
-pub record Feedable (c : ℕ) (capacity oldest held : List ℕ) (closed : List Bool) (cells : List ℤ) : Type 0 where
+pub record Feedable (c : ℕ) (capacity oldest held peak : List ℕ) (closed : List Bool) (cells : List ℤ) : Type 0 where
   pub low : c < 32
-  pub thirtyTwo : ThirtyTwo capacity oldest held closed
+  pub thirtyTwo : ThirtyTwo capacity oldest held peak closed
   pub within : getD held c 0 ≤ getD capacity c 0
   pub long : length cells ≡ 8192
 
 -- 11, 10, or the message; `gone`: the receiver of channel c has ended
-pub record FedIn (c : ℕ) (v : ℤ) (gone : Bool) (capacity oldest held : List ℕ) (closed : List Bool) (cells : List ℤ) (r : FeedAnswer) (held′ : List ℕ) (cells′ : List ℤ) : Type 0 where
-  pub thirtyTwo : ThirtyTwo capacity oldest held′ closed
+pub record FedIn (c : ℕ) (v : ℤ) (gone : Bool) (capacity oldest held peak : List ℕ) (closed : List Bool) (cells : List ℤ) (r : FeedAnswer) (held′ peak′ : List ℕ) (cells′ : List ℤ) : Type 0 where
+  pub thirtyTwo : ThirtyTwo capacity oldest held′ peak′ closed
   pub within : getD held′ c 0 ≤ getD capacity c 0
   pub long : length cells′ ≡ 8192
-  pub told : (l : Lane) → Channels capacity oldest held closed l → gone ≡ receiverEnded c (world l cells)
-      → leaves (feedTold r) capacity oldest held′ closed l cells′ ≡ refuse (isClosed c (world l cells)) 11 (world l cells) (fed c v (world l cells))
+  pub told : (l : Lane) → Channels capacity oldest held peak closed l → gone ≡ receiverEnded c (world l cells)
+      → leaves (feedTold r) capacity oldest held′ peak′ closed l cells′ ≡ refuse (isClosed c (world l cells)) 11 (world l cells) (fed c v (world l cells))
 
 -- ---- close: 11, or closed
-pub record ClosedIn (c : ℕ) (capacity oldest held : List ℕ) (shut : List Bool) (r : FeedAnswer) (shut′ : List Bool) : Type 0 where
-  pub thirtyTwo : ThirtyTwo capacity oldest held shut′
-  pub told : (l : Lane) → Channels capacity oldest held shut l → (cells : List ℤ)
-      → leaves (feedTold r) capacity oldest held shut′ l cells ≡ refuse (isClosed c (world l cells)) 11 (world l cells) (closed c (world l cells))
+pub record ClosedIn (c : ℕ) (capacity oldest held peak : List ℕ) (shut : List Bool) (r : FeedAnswer) (shut′ : List Bool) : Type 0 where
+  pub thirtyTwo : ThirtyTwo capacity oldest held peak shut′
+  pub told : (l : Lane) → Channels capacity oldest held peak shut l → (cells : List ℤ)
+      → leaves (feedTold r) capacity oldest held peak shut′ l cells ≡ refuse (isClosed c (world l cells)) 11 (world l cells) (closed c (world l cells))
 
 -- ---- take
-pub record Takeable (c : ℕ) (capacity oldest held : List ℕ) (closed : List Bool) (cells : List ℤ) : Type 0 where
+pub record Takeable (c : ℕ) (capacity oldest held peak : List ℕ) (closed : List Bool) (cells : List ℤ) : Type 0 where
   pub low : c < 32
-  pub thirtyTwo : ThirtyTwo capacity oldest held closed
+  pub thirtyTwo : ThirtyTwo capacity oldest held peak closed
   pub place : getD oldest c 0 < 256
   pub long : length cells ≡ 8192
 
 -- the end, 12, or the oldest message
-pub record TakenIn (c : ℕ) (capacity oldest held : List ℕ) (closed : List Bool) (cells : List ℤ) (r : TakeAnswer) (oldest′ held′ : List ℕ) : Type 0 where
-  pub thirtyTwo : ThirtyTwo capacity oldest′ held′ closed
-  pub told : (l : Lane) → Channels capacity oldest held closed l → leaves (takeTold r) capacity oldest′ held′ closed l cells ≡ taken c (world l cells)
+pub record TakenIn (c : ℕ) (capacity oldest held peak : List ℕ) (closed : List Bool) (cells : List ℤ) (r : TakeAnswer) (oldest′ held′ : List ℕ) : Type 0 where
+  pub thirtyTwo : ThirtyTwo capacity oldest′ held′ peak closed
+  pub told : (l : Lane) → Channels capacity oldest held peak closed l → leaves (takeTold r) capacity oldest′ held′ peak closed l cells ≡ taken c (world l cells)

@@ -18,13 +18,14 @@ pub fn feed_in(
     capacity: &[u16; 32],
     oldest: &[u16; 32],
     held: &mut [u16; 32],
+    peak: &mut [u16; 32],
     closed: &[bool; 32],
     cells: &mut [i32],
 ) -> FeedAnswer
-    requires { ⌜ Feedable c (now capacity) (now oldest) (now held) (now closed) (now cells) ⌝ }
-    ensures { λ r. ⌜ FedIn c v gone (now (capacity .entry)) (now (oldest .entry)) (now (held .entry)) (now (closed .entry)) (now (cells .entry)) r (now (held .exit)) (now (cells .exit)) ⌝ }
+    requires { ⌜ Feedable c (now capacity) (now oldest) (now held) (now peak) (now closed) (now cells) ⌝ }
+    ensures { λ r. ⌜ FedIn c v gone (now (capacity .entry)) (now (oldest .entry)) (now (held .entry)) (now (peak .entry)) (now (closed .entry)) (now (cells .entry)) r (now (held .exit)) (now (peak .exit)) (now (cells .exit)) ⌝ }
 {
-    let h = channel_at(c, capacity, oldest, held, closed);
+    let h = channel_at(c, capacity, oldest, held, peak, closed);
     if h.closed {
         return FeedAnswer::Refused(Refusal::Closed);
     }
@@ -37,6 +38,7 @@ pub fn feed_in(
     cells[slot(c, h, h.held)] = v;
     let more = h.put();
     held[c] = more.held;
+    peak[c] = more.peak;
     FeedAnswer::Accepted
 }
 
@@ -46,12 +48,13 @@ pub fn close_in(
     capacity: &[u16; 32],
     oldest: &[u16; 32],
     held: &[u16; 32],
+    peak: &[u16; 32],
     closed: &mut [bool; 32],
 ) -> FeedAnswer
-    requires { ⌜ (c < 32) × ThirtyTwo (now capacity) (now oldest) (now held) (now closed) ⌝ }
-    ensures { λ r. ⌜ ClosedIn c (now (capacity .entry)) (now (oldest .entry)) (now (held .entry)) (now (closed .entry)) r (now (closed .exit)) ⌝ }
+    requires { ⌜ (c < 32) × ThirtyTwo (now capacity) (now oldest) (now held) (now peak) (now closed) ⌝ }
+    ensures { λ r. ⌜ ClosedIn c (now (capacity .entry)) (now (oldest .entry)) (now (held .entry)) (now (peak .entry)) (now (closed .entry)) r (now (closed .exit)) ⌝ }
 {
-    let was = channel_at(c, capacity, oldest, held, closed);
+    let was = channel_at(c, capacity, oldest, held, peak, closed);
     if was.closed {
         return FeedAnswer::Refused(Refusal::Closed);
     }
@@ -66,13 +69,14 @@ pub fn take_in(
     capacity: &[u16; 32],
     oldest: &mut [u16; 32],
     held: &mut [u16; 32],
+    peak: &[u16; 32],
     closed: &[bool; 32],
     cells: &[i32],
 ) -> TakeAnswer
-    requires { ⌜ Takeable c (now capacity) (now oldest) (now held) (now closed) (now cells) ⌝ }
-    ensures { λ r. ⌜ TakenIn c (now (capacity .entry)) (now (oldest .entry)) (now (held .entry)) (now (closed .entry)) (now (cells .entry)) r (now (oldest .exit)) (now (held .exit)) ⌝ }
+    requires { ⌜ Takeable c (now capacity) (now oldest) (now held) (now peak) (now closed) (now cells) ⌝ }
+    ensures { λ r. ⌜ TakenIn c (now (capacity .entry)) (now (oldest .entry)) (now (held .entry)) (now (peak .entry)) (now (closed .entry)) (now (cells .entry)) r (now (oldest .exit)) (now (held .exit)) ⌝ }
 {
-    let h = channel_at(c, capacity, oldest, held, closed);
+    let h = channel_at(c, capacity, oldest, held, peak, closed);
     if h.held == 0 {
         if !h.closed {
             return TakeAnswer::Refused(Refusal::Empty);

@@ -69,11 +69,11 @@ module _ (n : Network) (accepted : ℕ) {f : Fixed} (t : Parts) (lent : Lent n f
         live = rw (stands n accepted full p, z);
       }
 
-  pub ready-is : {i : Instruction} {cells : List ℤ} → At (laneOf n accepted t) p i → length cells ≡ 8192 → Ready i (8 * p) (t .conditions) (t .capacity) (t .oldest) (t .held) (t .closed) cells
+  pub ready-is : {i : Instruction} {cells : List ℤ} → At (laneOf n accepted t) p i → length cells ≡ 8192 → Ready i (8 * p) (t .conditions) (t .capacity) (t .oldest) (t .held) (t .peak) (t .closed) cells
   ready-is {i} at long =
       let k = stands-right (laneOf n accepted t) facts p there in
       let b = bounds-at (laneOf n accepted t) facts (channelIn i) (omega arith) in
-      let h = channel-at 32 (t .capacity) (t .oldest) (t .held) (t .closed) (full .thirtyTwo .room) (full .thirtyTwo .place) (full .thirtyTwo .number) (full .thirtyTwo .shut) (channelIn i) in
+      let h = channel-at 32 (t .capacity) (t .oldest) (t .held) (t .peak) (t .closed) (full .thirtyTwo .room) (full .thirtyTwo .place) (full .thirtyTwo .number) (full .thirtyTwo .mark) (full .thirtyTwo .shut) (channelIn i) in
       record {
         count = countOf n p;
         receives = receives n p (instructionFor p (laneOf n accepted t) .b);
@@ -187,7 +187,7 @@ kept-file n accepted t lent full sound p there cells t′ e =
 pub picked-is :
     {p : ℕ} {f : Fixed} {t : Parts} {cells : List ℤ} (k : Picking p f t cells) {r : ℕ} {t′ : Parts} {cells′ : List ℤ}
     → Sixteen (t′ .positions) (t′ .conditions) (t′ .moves)
-    → ThirtyTwo (t′ .capacity) (t′ .oldest) (t′ .held) (t′ .closed)
+    → ThirtyTwo (t′ .capacity) (t′ .oldest) (t′ .held) (t′ .peak) (t′ .closed)
     → ((n : Network) (accepted : ℕ) → Lent n f → soundOf (laneOf n accepted t) ≡ true → p < n .processes
     → (world (laneOf n accepted t′) cells′ ≡ pickIn p (world (laneOf n accepted t) cells))
     × (r ≡ cond (hasMoved (stepFor p (world (laneOf n accepted t) cells) .outcome)) 1 0))

@@ -34,10 +34,11 @@ pub fn end(
     capacity: &[u16; 32],
     oldest: &[u16; 32],
     held: &mut [u16; 32],
+    peak: &[u16; 32],
     closed: &mut [bool; 32],
 ) -> u64
-    requires { ⌜ (p < 16) × (channels ≤ 32) × ThirtyTwo (now capacity) (now oldest) (now held) (now closed) ⌝ }
-    ensures { λ r. ⌜ (r ≡ 1) × (now (conditions .exit) ≡ set (now (conditions .entry)) p condition) × (now (moves .exit) ≡ set (now (moves .entry)) p (counted (getD (now (moves .entry)) p 0))) × (channelsOf (now (capacity .entry)) (now (oldest .entry)) (now (held .exit)) (now (closed .exit)) ≡ dropFrom (ends (now (sender .entry)) (now (receiver .entry)) channels) p 0 (channelsOf (now (capacity .entry)) (now (oldest .entry)) (now (held .entry)) (now (closed .entry)))) × ThirtyTwo (now (capacity .entry)) (now (oldest .entry)) (now (held .exit)) (now (closed .exit)) ⌝ }
+    requires { ⌜ (p < 16) × (channels ≤ 32) × ThirtyTwo (now capacity) (now oldest) (now held) (now peak) (now closed) ⌝ }
+    ensures { λ r. ⌜ (r ≡ 1) × (now (conditions .exit) ≡ set (now (conditions .entry)) p condition) × (now (moves .exit) ≡ set (now (moves .entry)) p (counted (getD (now (moves .entry)) p 0))) × (channelsOf (now (capacity .entry)) (now (oldest .entry)) (now (held .exit)) (now (peak .entry)) (now (closed .exit)) ≡ dropFrom (ends (now (sender .entry)) (now (receiver .entry)) channels) p 0 (channelsOf (now (capacity .entry)) (now (oldest .entry)) (now (held .entry)) (now (peak .entry)) (now (closed .entry)))) × ThirtyTwo (now (capacity .entry)) (now (oldest .entry)) (now (held .exit)) (now (peak .entry)) (now (closed .exit)) ⌝ }
 {
     conditions[p] = condition;
     drop_all(
@@ -47,6 +48,7 @@ pub fn end(
         capacity,
         oldest,
         held,
+        peak,
         closed,
         p,
     );
@@ -79,11 +81,12 @@ fn drop_all(
     capacity: &[u16; 32],
     oldest: &[u16; 32],
     held: &mut [u16; 32],
+    peak: &[u16; 32],
     closed: &mut [bool; 32],
     p: usize,
 )
-    requires { ⌜ (count ≤ 32) × ThirtyTwo (now capacity) (now oldest) (now held) (now closed) ⌝ }
-    ensures { λ u. ⌜ (channelsOf (now (capacity .entry)) (now (oldest .entry)) (now (held .exit)) (now (closed .exit)) ≡ dropFrom (ends (now (sender .entry)) (now (receiver .entry)) count) p 0 (channelsOf (now (capacity .entry)) (now (oldest .entry)) (now (held .entry)) (now (closed .entry)))) × ThirtyTwo (now (capacity .entry)) (now (oldest .entry)) (now (held .exit)) (now (closed .exit)) ⌝ }
+    requires { ⌜ (count ≤ 32) × ThirtyTwo (now capacity) (now oldest) (now held) (now peak) (now closed) ⌝ }
+    ensures { λ u. ⌜ (channelsOf (now (capacity .entry)) (now (oldest .entry)) (now (held .exit)) (now (peak .entry)) (now (closed .exit)) ≡ dropFrom (ends (now (sender .entry)) (now (receiver .entry)) count) p 0 (channelsOf (now (capacity .entry)) (now (oldest .entry)) (now (held .entry)) (now (peak .entry)) (now (closed .entry)))) × ThirtyTwo (now (capacity .entry)) (now (oldest .entry)) (now (held .exit)) (now (peak .entry)) (now (closed .exit)) ⌝ }
 {
     let mut c = 0;
     while c < count {
@@ -92,7 +95,7 @@ fn drop_all(
         let k = drop_one(
             sends,
             receives,
-            lane_parts::channel_at(c, capacity, oldest, held, closed),
+            lane_parts::channel_at(c, capacity, oldest, held, peak, closed),
         );
         held[c] = k.held;
         closed[c] = k.closed;

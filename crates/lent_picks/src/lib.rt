@@ -20,11 +20,12 @@ pub fn pick_one(
     capacity: &[u16; 32],
     oldest: &mut [u16; 32],
     held: &mut [u16; 32],
+    peak: &mut [u16; 32],
     closed: &mut [bool; 32],
     cells: &mut [i32],
 ) -> u64
-    requires { ⌜ Picking p (fixed (now code) (now first) (now sender) (now receiver) channels) (parts (now registers) (now positions) (now conditions) (now moves) (now capacity) (now oldest) (now held) (now closed)) (now cells) ⌝ }
-    ensures { λ r. ⌜ Picked p (fixed (now (code .entry)) (now (first .entry)) (now (sender .entry)) (now (receiver .entry)) channels) (parts (now (registers .entry)) (now (positions .entry)) (now (conditions .entry)) (now (moves .entry)) (now (capacity .entry)) (now (oldest .entry)) (now (held .entry)) (now (closed .entry))) (now (cells .entry)) r (parts (now (registers .exit)) (now (positions .exit)) (now (conditions .exit)) (now (moves .exit)) (now (capacity .entry)) (now (oldest .exit)) (now (held .exit)) (now (closed .exit))) (now (cells .exit)) ⌝ }
+    requires { ⌜ Picking p (fixed (now code) (now first) (now sender) (now receiver) channels) (parts (now registers) (now positions) (now conditions) (now moves) (now capacity) (now oldest) (now held) (now peak) (now closed)) (now cells) ⌝ }
+    ensures { λ r. ⌜ Picked p (fixed (now (code .entry)) (now (first .entry)) (now (sender .entry)) (now (receiver .entry)) channels) (parts (now (registers .entry)) (now (positions .entry)) (now (conditions .entry)) (now (moves .entry)) (now (capacity .entry)) (now (oldest .entry)) (now (held .entry)) (now (peak .entry)) (now (closed .entry))) (now (cells .entry)) r (parts (now (registers .exit)) (now (positions .exit)) (now (conditions .exit)) (now (moves .exit)) (now (capacity .entry)) (now (oldest .exit)) (now (held .exit)) (now (peak .exit)) (now (closed .exit))) (now (cells .exit)) ⌝ }
 {
     if conditions[p] != 0 {
         return 0;
@@ -38,6 +39,7 @@ pub fn pick_one(
         capacity,
         oldest,
         held,
+        peak,
         closed,
         receiver,
         conditions,
@@ -59,6 +61,7 @@ pub fn pick_one(
                 capacity,
                 oldest,
                 held,
+                peak,
                 closed,
             )
         }
@@ -74,6 +77,7 @@ pub fn pick_one(
                 capacity,
                 oldest,
                 held,
+                peak,
                 closed,
             )
         }

@@ -34,11 +34,12 @@ fn round_in(
     capacity: &[u16; 32],
     oldest: &mut [u16; 32],
     held: &mut [u16; 32],
+    peak: &mut [u16; 32],
     closed: &mut [bool; 32],
     cells: &mut [i32],
 ) -> u64
-    requires { ⌜ Picks (now picks) (fixed (now code) (now first) (now sender) (now receiver) channels) (parts (now registers) (now positions) (now conditions) (now moves) (now capacity) (now oldest) (now held) (now closed)) (now cells) ⌝ }
-    ensures { λ r. ⌜ Round (now (picks .entry)) (fixed (now (code .entry)) (now (first .entry)) (now (sender .entry)) (now (receiver .entry)) channels) (parts (now (registers .entry)) (now (positions .entry)) (now (conditions .entry)) (now (moves .entry)) (now (capacity .entry)) (now (oldest .entry)) (now (held .entry)) (now (closed .entry))) (now (cells .entry)) r (parts (now (registers .exit)) (now (positions .exit)) (now (conditions .exit)) (now (moves .exit)) (now (capacity .entry)) (now (oldest .exit)) (now (held .exit)) (now (closed .exit))) (now (cells .exit)) ⌝ }
+    requires { ⌜ Picks (now picks) (fixed (now code) (now first) (now sender) (now receiver) channels) (parts (now registers) (now positions) (now conditions) (now moves) (now capacity) (now oldest) (now held) (now peak) (now closed)) (now cells) ⌝ }
+    ensures { λ r. ⌜ Round (now (picks .entry)) (fixed (now (code .entry)) (now (first .entry)) (now (sender .entry)) (now (receiver .entry)) channels) (parts (now (registers .entry)) (now (positions .entry)) (now (conditions .entry)) (now (moves .entry)) (now (capacity .entry)) (now (oldest .entry)) (now (held .entry)) (now (peak .entry)) (now (closed .entry))) (now (cells .entry)) r (parts (now (registers .exit)) (now (positions .exit)) (now (conditions .exit)) (now (moves .exit)) (now (capacity .entry)) (now (oldest .exit)) (now (held .exit)) (now (peak .exit)) (now (closed .exit))) (now (cells .exit)) ⌝ }
 {
     let mut moved: u64 = 0;
     let mut i: usize = 0;
@@ -58,6 +59,7 @@ fn round_in(
             capacity,
             oldest,
             held,
+            peak,
             closed,
             cells,
         );
@@ -98,11 +100,12 @@ fn make_rounds(
     capacity: &mut [u16; 32],
     oldest: &mut [u16; 32],
     held: &mut [u16; 32],
+    peak: &mut [u16; 32],
     closed: &mut [bool; 32],
     cells: &mut [i32],
 ) -> Rounds
-    requires { ⌜ Rounding (now picks) used (fixed (now code) (now first) (now sender) (now receiver) channels) (parts (now registers) (now positions) (now conditions) (now moves) (now capacity) (now oldest) (now held) (now closed)) (now cells) ⌝ }
-    ensures { λ r. ⌜ Turns again (now (picks .entry)) used (fixed (now (code .entry)) (now (first .entry)) (now (sender .entry)) (now (receiver .entry)) channels) (parts (now (registers .entry)) (now (positions .entry)) (now (conditions .entry)) (now (moves .entry)) (now (capacity .entry)) (now (oldest .entry)) (now (held .entry)) (now (closed .entry))) (now (cells .entry)) (r .moved) (r .left) (r .enlarged) (parts (now (registers .exit)) (now (positions .exit)) (now (conditions .exit)) (now (moves .exit)) (now (capacity .exit)) (now (oldest .exit)) (now (held .exit)) (now (closed .exit))) (now (cells .exit)) ⌝ }
+    requires { ⌜ Rounding (now picks) used (fixed (now code) (now first) (now sender) (now receiver) channels) (parts (now registers) (now positions) (now conditions) (now moves) (now capacity) (now oldest) (now held) (now peak) (now closed)) (now cells) ⌝ }
+    ensures { λ r. ⌜ Turns again (now (picks .entry)) used (fixed (now (code .entry)) (now (first .entry)) (now (sender .entry)) (now (receiver .entry)) channels) (parts (now (registers .entry)) (now (positions .entry)) (now (conditions .entry)) (now (moves .entry)) (now (capacity .entry)) (now (oldest .entry)) (now (held .entry)) (now (peak .entry)) (now (closed .entry))) (now (cells .entry)) (r .moved) (r .left) (r .enlarged) (parts (now (registers .exit)) (now (positions .exit)) (now (conditions .exit)) (now (moves .exit)) (now (capacity .exit)) (now (oldest .exit)) (now (held .exit)) (now (peak .exit)) (now (closed .exit))) (now (cells .exit)) ⌝ }
 {
     let mut left = again;
     let mut moved: u64 = 0;
@@ -122,6 +125,7 @@ fn make_rounds(
             capacity,
             oldest,
             held,
+            peak,
             closed,
             cells,
         );
@@ -139,6 +143,7 @@ fn make_rounds(
             capacity,
             oldest,
             held,
+            peak,
             closed,
         );
         if idle(moved, eased) {
@@ -173,11 +178,12 @@ pub fn rounds_in(
     capacity: &mut [u16; 32],
     oldest: &mut [u16; 32],
     held: &mut [u16; 32],
+    peak: &mut [u16; 32],
     closed: &mut [bool; 32],
     cells: &mut [i32],
 ) -> Rounds
-    requires { ⌜ Rounding (now picks) used (fixed (now code) (now first) (now sender) (now receiver) channels) (parts (now registers) (now positions) (now conditions) (now moves) (now capacity) (now oldest) (now held) (now closed)) (now cells) ⌝ }
-    ensures { λ r. ⌜ Turns again (now (picks .entry)) used (fixed (now (code .entry)) (now (first .entry)) (now (sender .entry)) (now (receiver .entry)) channels) (parts (now (registers .entry)) (now (positions .entry)) (now (conditions .entry)) (now (moves .entry)) (now (capacity .entry)) (now (oldest .entry)) (now (held .entry)) (now (closed .entry))) (now (cells .entry)) (r .moved) (r .left) (r .enlarged) (parts (now (registers .exit)) (now (positions .exit)) (now (conditions .exit)) (now (moves .exit)) (now (capacity .exit)) (now (oldest .exit)) (now (held .exit)) (now (closed .exit))) (now (cells .exit)) ⌝ }
+    requires { ⌜ Rounding (now picks) used (fixed (now code) (now first) (now sender) (now receiver) channels) (parts (now registers) (now positions) (now conditions) (now moves) (now capacity) (now oldest) (now held) (now peak) (now closed)) (now cells) ⌝ }
+    ensures { λ r. ⌜ Turns again (now (picks .entry)) used (fixed (now (code .entry)) (now (first .entry)) (now (sender .entry)) (now (receiver .entry)) channels) (parts (now (registers .entry)) (now (positions .entry)) (now (conditions .entry)) (now (moves .entry)) (now (capacity .entry)) (now (oldest .entry)) (now (held .entry)) (now (peak .entry)) (now (closed .entry))) (now (cells .entry)) (r .moved) (r .left) (r .enlarged) (parts (now (registers .exit)) (now (positions .exit)) (now (conditions .exit)) (now (moves .exit)) (now (capacity .exit)) (now (oldest .exit)) (now (held .exit)) (now (peak .exit)) (now (closed .exit))) (now (cells .exit)) ⌝ }
 {
     let starts = *first;
     let mut places = *positions;
@@ -186,6 +192,7 @@ pub fn rounds_in(
     let mut room = *capacity;
     let mut oldests = *oldest;
     let mut numbers = *held;
+    let mut peaks = *peak;
     let mut shut = *closed;
     let r = make_rounds(
         picks,
@@ -203,6 +210,7 @@ pub fn rounds_in(
         &mut room,
         &mut oldests,
         &mut numbers,
+        &mut peaks,
         &mut shut,
         cells,
     );
@@ -212,6 +220,7 @@ pub fn rounds_in(
     *capacity = room;
     *oldest = oldests;
     *held = numbers;
+    *peak = peaks;
     *closed = shut;
     r
 }
@@ -242,11 +251,12 @@ pub fn pick(lane: Lane, cells: &mut [i32], p: usize) -> Turn
     let mut capacity: [u16; 32] = [0; 32];
     let mut oldest: [u16; 32] = [0; 32];
     let mut held: [u16; 32] = [0; 32];
+    let mut peak: [u16; 32] = [0; 32];
     let mut closed: [bool; 32] = [false; 32];
     let processes = lane.processes;
     lane_parts::part_processes(processes, &mut positions, &mut conditions, &mut moves);
     let records = lane.channels;
-    lane_parts::part_channels(records, &mut capacity, &mut oldest, &mut held, &mut closed);
+    lane_parts::part_channels(records, &mut capacity, &mut oldest, &mut held, &mut peak, &mut closed);
     let one = [p as u8];
     let r = rounds_in(
         &one,
@@ -264,6 +274,7 @@ pub fn pick(lane: Lane, cells: &mut [i32], p: usize) -> Turn
         &mut capacity,
         &mut oldest,
         &mut held,
+        &mut peak,
         &mut closed,
         cells,
     );
@@ -271,7 +282,7 @@ pub fn pick(lane: Lane, cells: &mut [i32], p: usize) -> Turn
     l.registers = registers;
     let processes_after = lane_parts::join_processes(&positions, &conditions, &moves);
     l.processes = processes_after;
-    let channels_after = lane_parts::join_channels(&capacity, &oldest, &held, &closed);
+    let channels_after = lane_parts::join_channels(&capacity, &oldest, &held, &peak, &closed);
     l.channels = channels_after;
     let moved = r.moved != 0;
     Turn { lane: l, moved }

@@ -29,7 +29,7 @@ use Rattle.lent_steps.specs.Steps.{withState, At, Turned, Ready}
 use Rattle.lent_steps.proofs.Turns.{did-assign, did-on, did-send, did-jump, did-wait-empty, did-wait-full, did-stop, did-fault}
 
 -- ---- the fields of an instruction
-module _ {i : Instruction} {base : ℕ} {conditions capacity oldest held : List ℕ} {closed : List Bool} {cells : List ℤ} (k : Ready i base conditions capacity oldest held closed cells) where
+module _ {i : Instruction} {base : ℕ} {conditions capacity oldest held peak : List ℕ} {closed : List Bool} {cells : List ℤ} (k : Ready i base conditions capacity oldest held peak closed cells) where
   pub a-low : i .a < 8
   a-low = own-low (k .count) (k .receives) (k .sends) i (k .right)
 

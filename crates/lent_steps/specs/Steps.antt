@@ -80,7 +80,7 @@ pub record Gone (receiver conditions : List ℕ) (l : Lane) : Type 0 where
 
 -- what the caller of an instruction has shown: it passes the file's rules for some process (with so many instructions, at these ends of channel
 -- b), its channel is that of a sound lane, the registers lie in the file, the cells are there
-pub record Ready (i : Instruction) (base : ℕ) (conditions capacity oldest held : List ℕ) (closed : List Bool) (cells : List ℤ) : Type 0 where
+pub record Ready (i : Instruction) (base : ℕ) (conditions capacity oldest held peak : List ℕ) (closed : List Bool) (cells : List ℤ) : Type 0 where
   pub count : ℕ
   pub receives : Bool
   pub sends : Bool
@@ -88,6 +88,6 @@ pub record Ready (i : Instruction) (base : ℕ) (conditions capacity oldest held
   pub low : base ≤ 120
   pub place : getD oldest (channelIn i) 0 < 256
   pub within : getD held (channelIn i) 0 ≤ getD capacity (channelIn i) 0
-  pub all : ThirtyTwo capacity oldest held closed
+  pub all : ThirtyTwo capacity oldest held peak closed
   pub processes : length conditions ≡ 16
   pub long : length cells ≡ 8192

@@ -27,14 +27,15 @@ fn receive(
     capacity: &[u16; 32],
     oldest: &mut [u16; 32],
     held: &mut [u16; 32],
+    peak: &[u16; 32],
     closed: &[bool; 32],
     cells: &[i32],
 ) -> Did
-    requires { ⌜ (i .op ≡ 11) × (i .a < 8) × (base ≤ 120) × ThirtyTwo (now capacity) (now oldest) (now held) (now closed) × (getD (now oldest) (channelIn i) 0 < 256) × (length (now cells) ≡ 8192) ⌝ }
-    ensures { λ r. ⌜ Means (λ l. Unit) i base (now (file .entry)) (channelsOf (now (capacity .entry)) (now (oldest .entry)) (now (held .entry)) (now (closed .entry))) (now (cells .entry)) r (now (file .exit)) (channelsOf (now (capacity .entry)) (now (oldest .exit)) (now (held .exit)) (now (closed .entry))) (now (cells .entry)) × ThirtyTwo (now (capacity .entry)) (now (oldest .exit)) (now (held .exit)) (now (closed .entry)) ⌝ }
+    requires { ⌜ (i .op ≡ 11) × (i .a < 8) × (base ≤ 120) × ThirtyTwo (now capacity) (now oldest) (now held) (now peak) (now closed) × (getD (now oldest) (channelIn i) 0 < 256) × (length (now cells) ≡ 8192) ⌝ }
+    ensures { λ r. ⌜ Means (λ l. Unit) i base (now (file .entry)) (channelsOf (now (capacity .entry)) (now (oldest .entry)) (now (held .entry)) (now (peak .entry)) (now (closed .entry))) (now (cells .entry)) r (now (file .exit)) (channelsOf (now (capacity .entry)) (now (oldest .exit)) (now (held .exit)) (now (peak .entry)) (now (closed .entry))) (now (cells .entry)) × ThirtyTwo (now (capacity .entry)) (now (oldest .exit)) (now (held .exit)) (now (peak .entry)) (now (closed .entry)) ⌝ }
 {
     let c = channel_of(i);
-    let from = channel_at(c, capacity, oldest, held, closed);
+    let from = channel_at(c, capacity, oldest, held, peak, closed);
     if from.held == 0 {
         if from.closed {
             return Did::To(i.c);
@@ -56,15 +57,16 @@ fn send(
     capacity: &[u16; 32],
     oldest: &[u16; 32],
     held: &mut [u16; 32],
+    peak: &mut [u16; 32],
     closed: &[bool; 32],
     gone: bool,
     cells: &mut [i32],
 ) -> Did
-    requires { ⌜ (i .op ≡ 12) × (i .a < 8) × (base ≤ 120) × ThirtyTwo (now capacity) (now oldest) (now held) (now closed) × (getD (now held) (channelIn i) 0 ≤ getD (now capacity) (channelIn i) 0) × (length (now cells) ≡ 8192) ⌝ }
-    ensures { λ r. ⌜ Means (λ l. gone ≡ endedAt l (receiverOf (l .network) (channelIn i))) i base (now (file .entry)) (channelsOf (now (capacity .entry)) (now (oldest .entry)) (now (held .entry)) (now (closed .entry))) (now (cells .entry)) r (now (file .entry)) (channelsOf (now (capacity .entry)) (now (oldest .entry)) (now (held .exit)) (now (closed .entry))) (now (cells .exit)) × ThirtyTwo (now (capacity .entry)) (now (oldest .entry)) (now (held .exit)) (now (closed .entry)) ⌝ }
+    requires { ⌜ (i .op ≡ 12) × (i .a < 8) × (base ≤ 120) × ThirtyTwo (now capacity) (now oldest) (now held) (now peak) (now closed) × (getD (now held) (channelIn i) 0 ≤ getD (now capacity) (channelIn i) 0) × (length (now cells) ≡ 8192) ⌝ }
+    ensures { λ r. ⌜ Means (λ l. gone ≡ endedAt l (receiverOf (l .network) (channelIn i))) i base (now (file .entry)) (channelsOf (now (capacity .entry)) (now (oldest .entry)) (now (held .entry)) (now (peak .entry)) (now (closed .entry))) (now (cells .entry)) r (now (file .entry)) (channelsOf (now (capacity .entry)) (now (oldest .entry)) (now (held .exit)) (now (peak .exit)) (now (closed .entry))) (now (cells .exit)) × ThirtyTwo (now (capacity .entry)) (now (oldest .entry)) (now (held .exit)) (now (peak .exit)) (now (closed .entry)) ⌝ }
 {
     let c = channel_of(i);
-    let to = channel_at(c, capacity, oldest, held, closed);
+    let to = channel_at(c, capacity, oldest, held, peak, closed);
     if to.closed {
         return Did::Fault;
     }
@@ -78,6 +80,7 @@ fn send(
     cells[at] = register(file, base, i.a);
     let k = to.put();
     held[c] = k.held;
+    peak[c] = k.peak;
     Did::On
 }
 
@@ -87,13 +90,14 @@ fn close(
     capacity: &[u16; 32],
     oldest: &[u16; 32],
     held: &[u16; 32],
+    peak: &[u16; 32],
     closed: &mut [bool; 32],
 ) -> Did
-    requires { ⌜ (i .op ≡ 13) × ThirtyTwo (now capacity) (now oldest) (now held) (now closed) ⌝ }
-    ensures { λ r. ⌜ ((base : ℕ) (file cells : List ℤ) → Means (λ l. Unit) i base file (channelsOf (now (capacity .entry)) (now (oldest .entry)) (now (held .entry)) (now (closed .entry))) cells r file (channelsOf (now (capacity .entry)) (now (oldest .entry)) (now (held .entry)) (now (closed .exit))) cells) × ThirtyTwo (now (capacity .entry)) (now (oldest .entry)) (now (held .entry)) (now (closed .exit)) ⌝ }
+    requires { ⌜ (i .op ≡ 13) × ThirtyTwo (now capacity) (now oldest) (now held) (now peak) (now closed) ⌝ }
+    ensures { λ r. ⌜ ((base : ℕ) (file cells : List ℤ) → Means (λ l. Unit) i base file (channelsOf (now (capacity .entry)) (now (oldest .entry)) (now (held .entry)) (now (peak .entry)) (now (closed .entry))) cells r file (channelsOf (now (capacity .entry)) (now (oldest .entry)) (now (held .entry)) (now (peak .entry)) (now (closed .exit))) cells) × ThirtyTwo (now (capacity .entry)) (now (oldest .entry)) (now (held .entry)) (now (peak .entry)) (now (closed .exit)) ⌝ }
 {
     let c = channel_of(i);
-    let h = channel_at(c, capacity, oldest, held, closed);
+    let h = channel_at(c, capacity, oldest, held, peak, closed);
     if h.closed {
         return Did::Fault;
     }
@@ -111,13 +115,14 @@ pub fn step(
     capacity: &[u16; 32],
     oldest: &mut [u16; 32],
     held: &mut [u16; 32],
+    peak: &mut [u16; 32],
     closed: &mut [bool; 32],
     receiver: &[u8; 32],
     conditions: &[u8; 16],
     cells: &mut [i32],
 ) -> Did
-    requires { ⌜ Ready i base (now conditions) (now capacity) (now oldest) (now held) (now closed) (now cells) ⌝ }
-    ensures { λ r. ⌜ Means (Gone (now (receiver .entry)) (now (conditions .entry))) i base (now (file .entry)) (channelsOf (now (capacity .entry)) (now (oldest .entry)) (now (held .entry)) (now (closed .entry))) (now (cells .entry)) r (now (file .exit)) (channelsOf (now (capacity .entry)) (now (oldest .exit)) (now (held .exit)) (now (closed .exit))) (now (cells .exit)) × ThirtyTwo (now (capacity .entry)) (now (oldest .exit)) (now (held .exit)) (now (closed .exit)) ⌝ }
+    requires { ⌜ Ready i base (now conditions) (now capacity) (now oldest) (now held) (now peak) (now closed) (now cells) ⌝ }
+    ensures { λ r. ⌜ Means (Gone (now (receiver .entry)) (now (conditions .entry))) i base (now (file .entry)) (channelsOf (now (capacity .entry)) (now (oldest .entry)) (now (held .entry)) (now (peak .entry)) (now (closed .entry))) (now (cells .entry)) r (now (file .exit)) (channelsOf (now (capacity .entry)) (now (oldest .exit)) (now (held .exit)) (now (peak .exit)) (now (closed .exit))) (now (cells .exit)) × ThirtyTwo (now (capacity .entry)) (now (oldest .exit)) (now (held .exit)) (now (peak .exit)) (now (closed .exit)) ⌝ }
 {
     let op = i.op;
     match op {
@@ -132,12 +137,12 @@ pub fn step(
         8 => Did::To(i.c),
         9 => register_steps::jump_zero(i, file, base),
         10 => register_steps::jump_negative(i, file, base),
-        11 => receive(i, file, base, capacity, oldest, held, closed, cells),
+        11 => receive(i, file, base, capacity, oldest, held, peak, closed, cells),
         12 => {
             let gone = ended_at(receiver[channel_of(i)], conditions);
-            send(i, file, base, capacity, oldest, held, closed, gone, cells)
+            send(i, file, base, capacity, oldest, held, peak, closed, gone, cells)
         }
-        13 => close(i, capacity, oldest, held, closed),
+        13 => close(i, capacity, oldest, held, peak, closed),
         _ => Did::Fault,
     }
 }

@@ -10,11 +10,13 @@ pub enum Condition {
     Faulted,
 }
 
-// A channel: its capacity, the place of the oldest message (0 to 255), the number held, closed or open.
+// A channel: its capacity, the place of the oldest message (0 to 255), the number held, the most held since the start (its high-water mark), closed or
+// open.
 pub struct Channel {
     pub capacity: u16,
     pub oldest: u16,
     pub held: u16,
+    pub peak: u16,
     pub closed: bool,
 }
 
@@ -30,12 +32,15 @@ pub enum Outcome {
 }
 
 impl Channel {
-    // One message more. Public for the crates above, which know that there is room.
+    // One message more; only here can more be held than ever before. Public for the crates above, which know that there is room.
     pub fn put(mut self) -> Channel
         requires { ⌜ self .held < self .capacity ⌝ }
         ensures { λ r. ⌜ r ≡ putOne self ⌝ }
     {
         self.held = self.held + 1;
+        if self.peak < self.held {
+            self.peak = self.held;
+        }
         self
     }
 

@@ -44,8 +44,8 @@ module _ (l : Lane) (s : Sound l) {points full channel : List ℕ} where
 
 -- ---- the channel that grows
 pub grew :
-    (v : Arrays) (l : Lane) → Shows v l → ThirtyTwo (v .capacity) (v .oldest) (v .held) (v .closed) → (c : ℕ) {h k : Channel}
-    → h ≡ getD (channelsOf (v .capacity) (v .oldest) (v .held) (v .closed)) c noChannel
+    (v : Arrays) (l : Lane) → Shows v l → ThirtyTwo (v .capacity) (v .oldest) (v .held) (v .peak) (v .closed) → (c : ℕ) {h k : Channel}
+    → h ≡ getD (channelsOf (v .capacity) (v .oldest) (v .held) (v .peak) (v .closed)) c noChannel
     → k ≡ enlargeOne h
-    → channelsOf (set (v .capacity) c (k .capacity)) (v .oldest) (v .held) (v .closed) ≡ set (l .channels) c (enlargeOne (channelOf l c))
+    → channelsOf (set (v .capacity) c (k .capacity)) (v .oldest) (v .held) (v .peak) (v .closed) ≡ set (l .channels) c (enlargeOne (channelOf l c))
 grew v l shown t c e f = put-enlarged t c e f ∙ rw (f, e, ← shown .channel)

@@ -107,7 +107,16 @@ module _ (P : Relief → Type 0) (l : Lane) (buffer : List ℕ) (stays : (k : �
 -- ---- what every relief keeps, refused or not
 enlarge-one : (s r : Bool) (h : Channel) → h .capacity < 256 → ChannelSound s r h → ChannelSound s r (enlargeOne h)
 enlarge-one s r h b k =
-    record { within = omega (arith, k .within); low = omega arith; high = omega arith; place = k .place; shut = k .shut; drained = k .drained }
+    record {
+      within = omega (arith, k .within);
+      low = omega arith;
+      high = omega arith;
+      place = k .place;
+      reached = k .reached;
+      topped = omega (arith, k .topped);
+      shut = k .shut;
+      drained = k .drained;
+    }
 
 -- a channel that grows
 pub larger-kept : (l : Lane) (cells : List ℤ) (c : ℕ) → soundOf l ≡ true → Enlargeable l c → Preserves (world l cells) (world (larger c l) cells)

@@ -19,7 +19,7 @@ counts (refused k) l = l
 
 -- the answer, the capacities and the buffer are those that the rule of a relief leaves
 pub record Eased (used : ℕ) (v : Arrays) (ring : List ℕ) (r : ReliefAnswer) (capacity′ ring′ : List ℕ) : Type 0 where
-  pub thirtyTwo : ThirtyTwo capacity′ (v .oldest) (v .held) (v .closed)
+  pub thirtyTwo : ThirtyTwo capacity′ (v .oldest) (v .held) (v .peak) (v .closed)
   pub leaves :
       (l : Lane) → Shows v l → soundOf l ≡ true → used ≡ l .network .processes
-      → relief (told r) (counts (told r) (putChannels (channelsOf capacity′ (v .oldest) (v .held) (v .closed)) l)) ring′ ≡ relieveOf l ring
+      → relief (told r) (counts (told r) (putChannels (channelsOf capacity′ (v .oldest) (v .held) (v .peak) (v .closed)) l)) ring′ ≡ relieveOf l ring

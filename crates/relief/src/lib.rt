@@ -46,11 +46,12 @@ pub fn relieve_in(
     capacity: &mut [u16; 32],
     oldest: &[u16; 32],
     held: &[u16; 32],
+    peak: &[u16; 32],
     closed: &[bool; 32],
     ring: &mut [u8],
 ) -> ReliefAnswer
-    requires { ⌜ Relievable used (arrays (now code) (now first) (now sender) (now receiver) (now positions) (now conditions) (now capacity) (now oldest) (now held) (now closed)) ⌝ }
-    ensures { λ r. ⌜ Eased used (arrays (now (code .entry)) (now (first .entry)) (now (sender .entry)) (now (receiver .entry)) (now (positions .entry)) (now (conditions .entry)) (now (capacity .entry)) (now (oldest .entry)) (now (held .entry)) (now (closed .entry))) (now (ring .entry)) r (now (capacity .exit)) (now (ring .exit)) ⌝ }
+    requires { ⌜ Relievable used (arrays (now code) (now first) (now sender) (now receiver) (now positions) (now conditions) (now capacity) (now oldest) (now held) (now peak) (now closed)) ⌝ }
+    ensures { λ r. ⌜ Eased used (arrays (now (code .entry)) (now (first .entry)) (now (sender .entry)) (now (receiver .entry)) (now (positions .entry)) (now (conditions .entry)) (now (capacity .entry)) (now (oldest .entry)) (now (held .entry)) (now (peak .entry)) (now (closed .entry))) (now (ring .entry)) r (now (capacity .exit)) (now (ring .exit)) ⌝ }
 {
     let mut points = [255u8; 16];
     let mut full = [0u16; 16];
@@ -66,6 +67,7 @@ pub fn relieve_in(
         capacity,
         oldest,
         held,
+        peak,
         closed,
         &mut points,
         &mut full,
@@ -85,7 +87,7 @@ pub fn relieve_in(
     }
     let members = sought.ring;
     write(ring, members, length);
-    let grown = lane_parts::channel_at(c, capacity, oldest, held, closed).enlarge();
+    let grown = lane_parts::channel_at(c, capacity, oldest, held, peak, closed).enlarge();
     capacity[c] = grown.capacity;
     ReliefAnswer::Enlarged { length, channel: c }
 }
@@ -130,8 +132,9 @@ pub fn relieve(lane: Lane, ring: &mut [u8]) -> Relieved
     let mut capacity = [0u16; 32];
     let mut oldest = [0u16; 32];
     let mut held = [0u16; 32];
+    let mut peak = [0u16; 32];
     let mut closed = [false; 32];
-    lane_parts::part_channels(channels, &mut capacity, &mut oldest, &mut held, &mut closed);
+    lane_parts::part_channels(channels, &mut capacity, &mut oldest, &mut held, &mut peak, &mut closed);
     let answer = relieve_in(
         lane.network.processes,
         &code,
@@ -143,10 +146,11 @@ pub fn relieve(lane: Lane, ring: &mut [u8]) -> Relieved
         &mut capacity,
         &oldest,
         &held,
+        &peak,
         &closed,
         ring,
     );
-    let after = lane_parts::join_channels(&capacity, &oldest, &held, &closed);
+    let after = lane_parts::join_channels(&capacity, &oldest, &held, &peak, &closed);
     let mut l = lane;
     l.channels = after;
     answered(l, answer)

@@ -59,11 +59,12 @@ fn bytes_in(
     capacity: &mut [u16; 32],
     oldest: &mut [u16; 32],
     held: &mut [u16; 32],
+    peak: &mut [u16; 32],
     closed: &mut [bool; 32],
     cells: &mut [i32],
 ) -> Totals
-    requires { ⌜ Playable used (fixed (now code) (now first) (now sender) (now receiver) channels) (parts (now registers) (now positions) (now conditions) (now moves) (now capacity) (now oldest) (now held) (now closed)) (now cells) × AllNamed (now picks) used ⌝ }
-    ensures { λ r. ⌜ BytesIn (now (picks .entry)) used (fixed (now (code .entry)) (now (first .entry)) (now (sender .entry)) (now (receiver .entry)) channels) accepted (parts (now (registers .entry)) (now (positions .entry)) (now (conditions .entry)) (now (moves .entry)) (now (capacity .entry)) (now (oldest .entry)) (now (held .entry)) (now (closed .entry))) (now (cells .entry)) r (parts (now (registers .exit)) (now (positions .exit)) (now (conditions .exit)) (now (moves .exit)) (now (capacity .exit)) (now (oldest .exit)) (now (held .exit)) (now (closed .exit))) (now (cells .exit)) ⌝ }
+    requires { ⌜ Playable used (fixed (now code) (now first) (now sender) (now receiver) channels) (parts (now registers) (now positions) (now conditions) (now moves) (now capacity) (now oldest) (now held) (now peak) (now closed)) (now cells) × AllNamed (now picks) used ⌝ }
+    ensures { λ r. ⌜ BytesIn (now (picks .entry)) used (fixed (now (code .entry)) (now (first .entry)) (now (sender .entry)) (now (receiver .entry)) channels) accepted (parts (now (registers .entry)) (now (positions .entry)) (now (conditions .entry)) (now (moves .entry)) (now (capacity .entry)) (now (oldest .entry)) (now (held .entry)) (now (peak .entry)) (now (closed .entry))) (now (cells .entry)) r (parts (now (registers .exit)) (now (positions .exit)) (now (conditions .exit)) (now (moves .exit)) (now (capacity .exit)) (now (oldest .exit)) (now (held .exit)) (now (peak .exit)) (now (closed .exit))) (now (cells .exit)) ⌝ }
 {
     let plain = no_relief(picks);
     let mut moved: u64 = 0;
@@ -88,6 +89,7 @@ fn bytes_in(
             capacity,
             oldest,
             held,
+            peak,
             closed,
             cells,
         );
@@ -105,6 +107,7 @@ fn bytes_in(
                 capacity,
                 oldest,
                 held,
+                peak,
                 closed,
             );
             enlarged += grown;
@@ -138,8 +141,9 @@ fn bytes(lane: Lane, cells: &mut [i32], picks: &[u8]) -> RunResult
     let mut capacity = [0u16; 32];
     let mut oldest = [0u16; 32];
     let mut held = [0u16; 32];
+    let mut peak = [0u16; 32];
     let mut closed = [false; 32];
-    lane_parts::part_channels(records, &mut capacity, &mut oldest, &mut held, &mut closed);
+    lane_parts::part_channels(records, &mut capacity, &mut oldest, &mut held, &mut peak, &mut closed);
     let r = bytes_in(
         picks,
         lane.accepted,
@@ -156,11 +160,12 @@ fn bytes(lane: Lane, cells: &mut [i32], picks: &[u8]) -> RunResult
         &mut capacity,
         &mut oldest,
         &mut held,
+        &mut peak,
         &mut closed,
         cells,
     );
     let standings = lane_parts::join_processes(&positions, &conditions, &moves);
-    let joined = lane_parts::join_channels(&capacity, &oldest, &held, &closed);
+    let joined = lane_parts::join_channels(&capacity, &oldest, &held, &peak, &closed);
     let mut l = lane;
     l.registers = registers;
     l.processes = standings;

@@ -25,10 +25,10 @@ use Rattle.schedule.specs.Lent.{countedBy, countBy, Playable, Relieved, 
 
 -- t with other capacities
 abbrev pub withCapacity : List ℕ → Parts → Parts
-withCapacity capacity t = parts (t .registers) (t .positions) (t .conditions) (t .moves) capacity (t .oldest) (t .held) (t .closed)
+withCapacity capacity t = parts (t .registers) (t .positions) (t .conditions) (t .moves) capacity (t .oldest) (t .held) (t .peak) (t .closed)
 
 abbrev pub seen : Fixed → Parts → Arrays
-seen f t = arrays (f .code) (f .first) (f .sender) (f .receiver) (t .positions) (t .conditions) (t .capacity) (t .oldest) (t .held) (t .closed)
+seen f t = arrays (f .code) (f .first) (f .sender) (f .receiver) (t .positions) (t .conditions) (t .capacity) (t .oldest) (t .held) (t .peak) (t .closed)
 
 pub shows : (n : Network) (accepted : ℕ) {f : Fixed} {t : Parts} → Full t → Lent n f → Shows (seen f t) (laneOf n accepted t)
 shows n accepted full lent =
@@ -73,7 +73,7 @@ eased-is {used} {v} {r} {capacity′} e =
       leaves =
           λ l shows sound all.
           let q = e .leaves l shows sound all in
-          let l′ : Lane = putChannels (channelsOf capacity′ (v .oldest) (v .held) (v .closed)) l in
+          let l′ : Lane = putChannels (channelsOf capacity′ (v .oldest) (v .held) (v .peak) (v .closed)) l in
           (ap (λ (x : Relief). x .answer) q, sym (counts-by (told r) l′) ∙ ap (λ (x : Relief). x .lane) q);
     }
 

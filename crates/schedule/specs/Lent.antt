@@ -39,17 +39,17 @@ pub record Playable (used : ℕ) (f : Fixed) (t : Parts) (cells : List ℤ) : Ty
 -- ---- what is left
 -- a relief with room for any ring: its answer, and the lane with the capacities at exit
 pub record Relieved (used : ℕ) (v : Arrays) (r : ReliefAnswer) (enlarged : ℕ) (capacity′ : List ℕ) : Type 0 where
-  pub thirtyTwo : ThirtyTwo capacity′ (v .oldest) (v .held) (v .closed)
+  pub thirtyTwo : ThirtyTwo capacity′ (v .oldest) (v .held) (v .peak) (v .closed)
   pub leaves :
       (l : Lane) → Shows v l → soundOf l ≡ true → used ≡ l .network .processes
       → (told r ≡ relieveOf l (replicate 16 0) .answer)
-      × (countBy enlarged (putChannels (channelsOf capacity′ (v .oldest) (v .held) (v .closed)) l) ≡ relieveOf l (replicate 16 0) .lane)
+      × (countBy enlarged (putChannels (channelsOf capacity′ (v .oldest) (v .held) (v .peak) (v .closed)) l) ≡ relieveOf l (replicate 16 0) .lane)
 
 -- the same, by how many channels it enlarged, one or none
 pub record EasedBy (used : ℕ) (v : Arrays) (enlarged : ℕ) (capacity′ : List ℕ) : Type 0 where
-  pub thirtyTwo : ThirtyTwo capacity′ (v .oldest) (v .held) (v .closed)
+  pub thirtyTwo : ThirtyTwo capacity′ (v .oldest) (v .held) (v .peak) (v .closed)
   pub few : enlarged ≤ 1
   pub leaves :
       (l : Lane) → Shows v l → soundOf l ≡ true → used ≡ l .network .processes
       → (enlarged ≡ cond (hasGrown (relieveOf l (replicate 16 0) .answer)) 1 0)
-      × (countBy enlarged (putChannels (channelsOf capacity′ (v .oldest) (v .held) (v .closed)) l) ≡ relieveOf l (replicate 16 0) .lane)
+      × (countBy enlarged (putChannels (channelsOf capacity′ (v .oldest) (v .held) (v .peak) (v .closed)) l) ≡ relieveOf l (replicate 16 0) .lane)

@@ -30,10 +30,11 @@ pub fn relieve_in(
     capacity: &mut [u16; 32],
     oldest: &[u16; 32],
     held: &[u16; 32],
+    peak: &[u16; 32],
     closed: &[bool; 32],
 ) -> ReliefAnswer
-    requires { ⌜ Relievable used (arrays (now code) (now first) (now sender) (now receiver) (now positions) (now conditions) (now capacity) (now oldest) (now held) (now closed)) ⌝ }
-    ensures { λ r. ⌜ Relieved used (arrays (now (code .entry)) (now (first .entry)) (now (sender .entry)) (now (receiver .entry)) (now (positions .entry)) (now (conditions .entry)) (now (capacity .entry)) (now (oldest .entry)) (now (held .entry)) (now (closed .entry))) r (cond (hasGrown (told r)) 1 0) (now (capacity .exit)) ⌝ }
+    requires { ⌜ Relievable used (arrays (now code) (now first) (now sender) (now receiver) (now positions) (now conditions) (now capacity) (now oldest) (now held) (now peak) (now closed)) ⌝ }
+    ensures { λ r. ⌜ Relieved used (arrays (now (code .entry)) (now (first .entry)) (now (sender .entry)) (now (receiver .entry)) (now (positions .entry)) (now (conditions .entry)) (now (capacity .entry)) (now (oldest .entry)) (now (held .entry)) (now (peak .entry)) (now (closed .entry))) r (cond (hasGrown (told r)) 1 0) (now (capacity .exit)) ⌝ }
 {
     let mut ring = [0u8; 16];
     relief::relieve_in(
@@ -47,6 +48,7 @@ pub fn relieve_in(
         capacity,
         oldest,
         held,
+        peak,
         closed,
         &mut ring,
     )
@@ -78,10 +80,11 @@ pub fn ease_in(
     capacity: &mut [u16; 32],
     oldest: &[u16; 32],
     held: &[u16; 32],
+    peak: &[u16; 32],
     closed: &[bool; 32],
 ) -> u64
-    requires { ⌜ Relievable used (arrays (now code) (now first) (now sender) (now receiver) (now positions) (now conditions) (now capacity) (now oldest) (now held) (now closed)) ⌝ }
-    ensures { λ r. ⌜ EasedBy used (arrays (now (code .entry)) (now (first .entry)) (now (sender .entry)) (now (receiver .entry)) (now (positions .entry)) (now (conditions .entry)) (now (capacity .entry)) (now (oldest .entry)) (now (held .entry)) (now (closed .entry))) r (now (capacity .exit)) ⌝ }
+    requires { ⌜ Relievable used (arrays (now code) (now first) (now sender) (now receiver) (now positions) (now conditions) (now capacity) (now oldest) (now held) (now peak) (now closed)) ⌝ }
+    ensures { λ r. ⌜ EasedBy used (arrays (now (code .entry)) (now (first .entry)) (now (sender .entry)) (now (receiver .entry)) (now (positions .entry)) (now (conditions .entry)) (now (capacity .entry)) (now (oldest .entry)) (now (held .entry)) (now (peak .entry)) (now (closed .entry))) r (now (capacity .exit)) ⌝ }
 {
     let wanted = waits::some_wants_room(
         used,
@@ -94,6 +97,7 @@ pub fn ease_in(
         capacity,
         oldest,
         held,
+        peak,
         closed,
     );
     if !wanted {
@@ -110,6 +114,7 @@ pub fn ease_in(
         capacity,
         oldest,
         held,
+        peak,
         closed,
     );
     gained(answer)

@@ -1,5 +1,5 @@
 -- What the numbers of a channel leave in the sums that are laid over one another: one sum is clean of its flags exactly where the capacity is 1 to 256 and
--- the oldest at most 255, the other where no more is held than the capacity.
+-- the oldest at most 255, two others where no more is held than at the most, and where that is no more than the capacity.
 -- Assumes nothing.
 use mathlib.Core.Path.{_≡_, refl, ap, _∙_}
 use mathlib.Core.Bool.{_&&_}
@@ -39,8 +39,9 @@ places-clean (suc k) oldest h l =
     ∙ split-off 16 (65536 * 1 + oldest) (65536 * 0 + k) 0xFF00 0xFF00 _ _ (omega arith) (omega arith) (omega arith)
     (upper 0 k (omega arith) ∙ from-one k) (upper 1 oldest l)
 
-pub filling-clean : (held capacity : ℕ) → held < 65536 → capacity < 65536 → clean 0x10000 (held + 0xFFFF - capacity) ≡ leb held capacity
-filling-clean held capacity h l =
-    let e : bitAnd (held + 0xFFFF - capacity) 0x10000 ≡ (held + 0xFFFF - capacity) / 65536 % 2 * 65536 = and-high (held + 0xFFFF - capacity) 1 16 in
-    let q : (held + 0xFFFF - capacity) / 65536 % 2 ≡ (held + 0xFFFF - capacity) / 65536 = mod-eq-of-lt (omega arith) in
+-- no number a above b
+pub above-clean : (a b : ℕ) → a < 65536 → b < 65536 → clean 0x10000 (a + 0xFFFF - b) ≡ leb a b
+above-clean a b h l =
+    let e : bitAnd (a + 0xFFFF - b) 0x10000 ≡ (a + 0xFFFF - b) / 65536 % 2 * 65536 = and-high (a + 0xFFFF - b) 1 16 in
+    let q : (a + 0xFFFF - b) / 65536 % 2 ≡ (a + 0xFFFF - b) / 65536 = mod-eq-of-lt (omega arith) in
     iff _ _ (omega (arith, eqb-true, le-leb)) (omega (arith, leb-true, eq-eqb))

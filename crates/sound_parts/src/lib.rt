@@ -69,6 +69,9 @@ fn channel_zero(h: Channel) -> bool
     if h.held != 0 {
         return false;
     }
+    if h.peak != 0 {
+        return false;
+    }
     !h.closed
 }
 
@@ -105,7 +108,8 @@ pub fn standings(
 }
 
 // Whether channels in use are within their limits, whatever their ends. The numbers of a channel are laid over those of the others: a capacity of 0 or above
-// 256 and an oldest above 255 leave a digit from 8 to 15 or from 24 to 31 of the one sum, more held than the capacity digit 16 of the other.
+// 256 and an oldest above 255 leave a digit from 8 to 15 or from 24 to 31 of the one sum; more held than at the most, and that above the capacity, digit 16
+// of the two others.
 pub fn limits(channels: [Channel; 32], used: usize) -> bool
     requires { ⌜ used ≤ 32 ⌝ }
     ensures { λ r. ⌜ ((lane : Lane) → lane .channels ≡ channels → r ≡ isGood (firstBad (λ c. channelSound false false (channelOf lane c)) 0 used)) ⌝ }
@@ -116,8 +120,9 @@ pub fn limits(channels: [Channel; 32], used: usize) -> bool
     while c < used {
         let h = channels[c];
         let capacity = h.capacity as u64;
+        let peak = h.peak as u64;
         places = places | (capacity + 0x10000 * (h.oldest as u64) + 0xFFFFFFFF);
-        fillings = fillings | ((h.held as u64) + 0xFFFF - capacity);
+        fillings = fillings | (((h.held as u64) + 0xFFFF - peak) | (peak + 0xFFFF - capacity));
         c += 1;
     }
     places & 0xFF00FF00 == 0 && fillings & 0x10000 == 0

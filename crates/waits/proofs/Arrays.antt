@@ -33,9 +33,9 @@ use Rattle.waits.specs.Lent.{Arrays, arrays, Shows, Looked, AllLooked}
 use Rattle.waits.proofs.WaitLaws.{waitingFor, waits-are}
 
 -- ---- those of a lane taken apart
-module _ {ps ks ms ns os hs : List ℕ} {cs : List Bool} (l : Lane) where
-  pub parted : Sixteen ps ks ms → standingsOf ps ks ms ≡ l .processes → channelsOf ns os hs cs ≡ l .channels
-      → Shows (arrays (l .network .code) (l .network .first) (l .network .sender) (l .network .receiver) ps ks ns os hs cs) l
+module _ {ps ks ms ns os hs ts : List ℕ} {cs : List Bool} (l : Lane) where
+  pub parted : Sixteen ps ks ms → standingsOf ps ks ms ≡ l .processes → channelsOf ns os hs ts cs ≡ l .channels
+      → Shows (arrays (l .network .code) (l .network .first) (l .network .sender) (l .network .receiver) ps ks ns os hs ts cs) l
   parted t e d =
       record {
         lent = record { code = refl; first = refl; sender = refl; receiver = refl; channels = refl };
@@ -69,7 +69,7 @@ module _ (v : Arrays) (l : Lane) (shown : Shows v l) (s : Sound l) (p : ℕ) (h 
     pub looked :
         {c : ℕ} {k : Channel} {gone : Bool} {w : Waiting} {r : Wait}
         → c ≡ channelIn i
-        → k ≡ getD (channelsOf (v .capacity) (v .oldest) (v .held) (v .closed)) c noChannel
+        → k ≡ getD (channelsOf (v .capacity) (v .oldest) (v .held) (v .peak) (v .closed)) c noChannel
         → gone ≡ isEnded (conditionOf (getD (v .conditions) (getD (v .receiver) c 0) 0))
         → w ≡ waitingOf (i .op) (eqb (getD (v .conditions) p 0) 0) k gone
         → r ≡ waitFrom w c (getD (v .sender) c 0) (getD (v .receiver) c 0) (k .capacity)

@@ -25,10 +25,11 @@ pub record Arrays : Type 0 where
   pub capacity : List ℕ
   pub oldest : List ℕ
   pub held : List ℕ
+  pub peak : List ℕ
   pub closed : List Bool
 
-abbrev pub arrays : List ℕ → List ℕ → List ℕ → List ℕ → List ℕ → List ℕ → List ℕ → List ℕ → List ℕ → List Bool → Arrays
-arrays code first sender receiver positions conditions capacity oldest held closed =
+abbrev pub arrays : List ℕ → List ℕ → List ℕ → List ℕ → List ℕ → List ℕ → List ℕ → List ℕ → List ℕ → List ℕ → List Bool → Arrays
+arrays code first sender receiver positions conditions capacity oldest held peak closed =
     record {
       code = code;
       first = first;
@@ -39,18 +40,19 @@ arrays code first sender receiver positions conditions capacity oldest held clos
       capacity = capacity;
       oldest = oldest;
       held = held;
+      peak = peak;
       closed = closed;
     }
 
 -- they are those of l, however many channels it has
 abbrev pub Shows : Arrays → Lane → Type 0
 Shows v l =
-    Shown (fixed (v .code) (v .first) (v .sender) (v .receiver) (l .network .channels)) (v .positions) (v .conditions) (v .capacity) (v .oldest) (v .held) (v .closed) l
+    Shown (fixed (v .code) (v .first) (v .sender) (v .receiver) (l .network .channels)) (v .positions) (v .conditions) (v .capacity) (v .oldest) (v .held) (v .peak) (v .closed) l
 
 -- the lengths that are asked for
 pub record Long (v : Arrays) : Type 0 where
   pub condition : length (v .conditions) ≡ 16
-  pub thirtyTwo : ThirtyTwo (v .capacity) (v .oldest) (v .held) (v .closed)
+  pub thirtyTwo : ThirtyTwo (v .capacity) (v .oldest) (v .held) (v .peak) (v .closed)
 
 -- ---- what is required
 -- they are those of a sound lane that has a process p

@@ -88,14 +88,15 @@ pub fn wait_at(
     capacity: &[u16; 32],
     oldest: &[u16; 32],
     held: &[u16; 32],
+    peak: &[u16; 32],
     closed: &[bool; 32],
 ) -> Wait
-    requires { ⌜ Waitable p (arrays (now code) (now first) (now sender) (now receiver) (now positions) (now conditions) (now capacity) (now oldest) (now held) (now closed)) ⌝ }
-    ensures { λ r. ⌜ Looked p (arrays (now (code .entry)) (now (first .entry)) (now (sender .entry)) (now (receiver .entry)) (now (positions .entry)) (now (conditions .entry)) (now (capacity .entry)) (now (oldest .entry)) (now (held .entry)) (now (closed .entry))) r ⌝ }
+    requires { ⌜ Waitable p (arrays (now code) (now first) (now sender) (now receiver) (now positions) (now conditions) (now capacity) (now oldest) (now held) (now peak) (now closed)) ⌝ }
+    ensures { λ r. ⌜ Looked p (arrays (now (code .entry)) (now (first .entry)) (now (sender .entry)) (now (receiver .entry)) (now (positions .entry)) (now (conditions .entry)) (now (capacity .entry)) (now (oldest .entry)) (now (held .entry)) (now (peak .entry)) (now (closed .entry))) r ⌝ }
 {
     let i = network::fetch(code, lane_parts::place(first[p], positions[p]));
     let c = lane_parts::channel_of(i);
-    let h = lane_parts::channel_at(c, capacity, oldest, held, closed);
+    let h = lane_parts::channel_at(c, capacity, oldest, held, peak, closed);
     let gone = lane_parts::ended_at(receiver[c], conditions);
     let waiting = waiting_at(i.op, conditions[p] == 0, h, gone);
     wait_in(waiting, c as u8, sender[c], receiver[c], h.capacity)
@@ -114,13 +115,14 @@ pub fn waits_in(
     capacity: &[u16; 32],
     oldest: &[u16; 32],
     held: &[u16; 32],
+    peak: &[u16; 32],
     closed: &[bool; 32],
     points: &mut [u8; 16],
     full: &mut [u16; 16],
     channel: &mut [u8; 16],
 )
-    requires { ⌜ Relievable used (arrays (now code) (now first) (now sender) (now receiver) (now positions) (now conditions) (now capacity) (now oldest) (now held) (now closed)) × (length (now points) ≡ 16) × (length (now full) ≡ 16) × (length (now channel) ≡ 16) ⌝ }
-    ensures { λ u. ⌜ AllLooked used (arrays (now (code .entry)) (now (first .entry)) (now (sender .entry)) (now (receiver .entry)) (now (positions .entry)) (now (conditions .entry)) (now (capacity .entry)) (now (oldest .entry)) (now (held .entry)) (now (closed .entry))) (now (points .exit)) (now (full .exit)) (now (channel .exit)) ⌝ }
+    requires { ⌜ Relievable used (arrays (now code) (now first) (now sender) (now receiver) (now positions) (now conditions) (now capacity) (now oldest) (now held) (now peak) (now closed)) × (length (now points) ≡ 16) × (length (now full) ≡ 16) × (length (now channel) ≡ 16) ⌝ }
+    ensures { λ u. ⌜ AllLooked used (arrays (now (code .entry)) (now (first .entry)) (now (sender .entry)) (now (receiver .entry)) (now (positions .entry)) (now (conditions .entry)) (now (capacity .entry)) (now (oldest .entry)) (now (held .entry)) (now (peak .entry)) (now (closed .entry))) (now (points .exit)) (now (full .exit)) (now (channel .exit)) ⌝ }
 {
     let mut p = 0;
     while p < used {
@@ -135,6 +137,7 @@ pub fn waits_in(
             capacity,
             oldest,
             held,
+            peak,
             closed,
         );
         points[p] = wait.points;
@@ -156,10 +159,11 @@ fn wants_room_at(
     capacity: &[u16; 32],
     oldest: &[u16; 32],
     held: &[u16; 32],
+    peak: &[u16; 32],
     closed: &[bool; 32],
 ) -> bool
-    requires { ⌜ Waitable p (arrays (now code) (now first) (now sender) (now receiver) (now positions) (now conditions) (now capacity) (now oldest) (now held) (now closed)) ⌝ }
-    ensures { λ r. ⌜ RoomLooked p (arrays (now (code .entry)) (now (first .entry)) (now (sender .entry)) (now (receiver .entry)) (now (positions .entry)) (now (conditions .entry)) (now (capacity .entry)) (now (oldest .entry)) (now (held .entry)) (now (closed .entry))) r ⌝ }
+    requires { ⌜ Waitable p (arrays (now code) (now first) (now sender) (now receiver) (now positions) (now conditions) (now capacity) (now oldest) (now held) (now peak) (now closed)) ⌝ }
+    ensures { λ r. ⌜ RoomLooked p (arrays (now (code .entry)) (now (first .entry)) (now (sender .entry)) (now (receiver .entry)) (now (positions .entry)) (now (conditions .entry)) (now (capacity .entry)) (now (oldest .entry)) (now (held .entry)) (now (peak .entry)) (now (closed .entry))) r ⌝ }
 {
     let i = network::fetch(code, lane_parts::place(first[p], positions[p]));
     if i.op != 12 {
@@ -176,6 +180,7 @@ fn wants_room_at(
         capacity,
         oldest,
         held,
+        peak,
         closed,
     );
     if wait.full == 0 {
@@ -197,10 +202,11 @@ pub fn some_wants_room(
     capacity: &[u16; 32],
     oldest: &[u16; 32],
     held: &[u16; 32],
+    peak: &[u16; 32],
     closed: &[bool; 32],
 ) -> bool
-    requires { ⌜ Relievable used (arrays (now code) (now first) (now sender) (now receiver) (now positions) (now conditions) (now capacity) (now oldest) (now held) (now closed)) ⌝ }
-    ensures { λ r. ⌜ RoomsLooked used (arrays (now (code .entry)) (now (first .entry)) (now (sender .entry)) (now (receiver .entry)) (now (positions .entry)) (now (conditions .entry)) (now (capacity .entry)) (now (oldest .entry)) (now (held .entry)) (now (closed .entry))) r ⌝ }
+    requires { ⌜ Relievable used (arrays (now code) (now first) (now sender) (now receiver) (now positions) (now conditions) (now capacity) (now oldest) (now held) (now peak) (now closed)) ⌝ }
+    ensures { λ r. ⌜ RoomsLooked used (arrays (now (code .entry)) (now (first .entry)) (now (sender .entry)) (now (receiver .entry)) (now (positions .entry)) (now (conditions .entry)) (now (capacity .entry)) (now (oldest .entry)) (now (held .entry)) (now (peak .entry)) (now (closed .entry))) r ⌝ }
 {
     let mut q = 0;
     while q < used {
@@ -215,6 +221,7 @@ pub fn some_wants_room(
             capacity,
             oldest,
             held,
+            peak,
             closed,
         );
         if wants {

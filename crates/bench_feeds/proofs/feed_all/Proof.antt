@@ -13,11 +13,11 @@ use Rattle.bench_feeds.proofs.feed_all.Statement.{statement}
 use Rattle.bench_feeds.proofs.feed_all.Tie as tie
 
 abbrev Inv-loop : tie.InvT-loop
-Inv-loop inputs after sender receiver channels conditions input next₀ capacity oldest held₀ closed₀ cells₀ c₀ next held closed cells c =
-    Around sender receiver channels conditions input next₀ (inlets capacity oldest held₀ closed₀ cells₀) c next (inlets capacity oldest held closed cells)
+Inv-loop inputs after sender receiver channels conditions input next₀ capacity oldest held₀ peak₀ closed₀ cells₀ c₀ next held peak closed cells c =
+    Around sender receiver channels conditions input next₀ (inlets capacity oldest held₀ peak₀ closed₀ cells₀) c next (inlets capacity oldest held peak closed cells)
 
 abbrev μ-loop : tie.MeasureT-loop
-μ-loop inputs after sender receiver channels conditions input next₀ capacity oldest held₀ closed₀ cells₀ c₀ next held closed cells c = channels - c
+μ-loop inputs after sender receiver channels conditions input next₀ capacity oldest held₀ peak₀ closed₀ cells₀ c₀ next held peak closed cells c = channels - c
 
 loop-holds : tie.Need-loop-holds Inv-loop μ-loop
 loop-holds c = jump-on (c .before .pre .1) (c .before .pre .0 .first) (feeds-begin (c .before .pre .1) _)
@@ -48,13 +48,13 @@ ended-at-requires : tie.Need-ended-at-requires Inv-loop μ-loop
 ended-at-requires c κs = c .before .before .before .before .before .before .before .before .before .before .before .pre .1 .sixteen
 
 fill-in-requires : tie.Need-fill-in-requires Inv-loop μ-loop
-fill-in-requires c κs = may-fill (c .before .before .before .before .before .before .before .before .before .before .before .before .before .before .before .pre .1) (c .before .before .before .before .before .before .before .before .before .before .before .before .before .loop .inv) (c .before .before .before .before .before .before .before .before .before .before .before .before .loop-test .taken)
+fill-in-requires c κs = may-fill (c .before .before .before .before .before .before .before .before .before .before .before .before .before .before .before .before .pre .1) (c .before .before .before .before .before .before .before .before .before .before .before .before .before .before .loop .inv) (c .before .before .before .before .before .before .before .before .before .before .before .before .before .loop-test .taken)
 
 mul-next : tie.Need-mul-next Inv-loop μ-loop
-mul-next c = omega (arith, place (c .before .before .before .before .before .before .before .before .before .before .before .before .before .before))
+mul-next c = omega (arith, place (c .before .before .before .before .before .before .before .before .before .before .before .before .before .before .before))
 
 element-write-next : tie.Need-element-write-next Inv-loop μ-loop
-element-write-next c = omega (arith, place (c .before .before .before .before .before .before .before .before .before .before .before .before .before .before), c .before .before .before .before .before .before .before .before .before .before .before .before .before .before .before .loop .inv .places)
+element-write-next c = omega (arith, place (c .before .before .before .before .before .before .before .before .before .before .before .before .before .before .before), c .before .before .before .before .before .before .before .before .before .before .before .before .before .before .before .before .loop .inv .places)
 
 element-copy-out-wide : tie.Need-element-copy-out-wide Inv-loop μ-loop
 element-copy-out-wide c = omega (arith, place (c .before .before))
@@ -76,10 +76,10 @@ loop-again c =
     let h = c .before .before .before .before .loop-test .taken in
     jump-on s (onward c)
     (⊎-elim
-    (λ w. rw (w .13, w .14, w .15, w .16) (filled-on s p h (w .0 .taken) (w .7 .ensures) (w .11 .ensures)))
+    (λ w. rw (w .14, w .15, w .16, w .17, w .18) (filled-on s p h (w .0 .taken) (w .7 .ensures) (w .12 .ensures)))
     (⊎-elim
-    (λ w. rw (w .6, w .7, w .8, w .9) (idle-on s p h (w .0 .taken) (λ oldest. sym (w .4 .ensures oldest) ∙ not-false _ (w .5 .left))))
-    (λ w. rw (w .1, w .2, w .3, w .4) (inside-on s p h (w .0 .left))))
+    (λ w. rw (w .6, w .7, w .8, w .9, w .10) (idle-on s p h (w .0 .taken) (λ oldest peak. sym (w .4 .ensures oldest peak) ∙ not-false _ (w .5 .left))))
+    (λ w. rw (w .1, w .2, w .3, w .4, w .5) (inside-on s p h (w .0 .left))))
     (c .before .before .if1 .came))
 
 same-length : tie.Need-same-length Inv-loop μ-loop

@@ -12,11 +12,11 @@ use Rattle.bench_takes.proofs.drain.Statement.{statement}
 use Rattle.bench_takes.proofs.drain.Tie as tie
 
 abbrev Inv-loop : tie.InvT-loop
-Inv-loop c given₀ capacity oldest₀ held₀ closed cells listing₀ at place₀ left₀ given oldest held listing place left =
-    Draining c left (outlets capacity oldest₀ held₀ closed given₀ cells listing₀ at) (outlets capacity oldest held closed given cells listing place)
+Inv-loop c given₀ capacity oldest₀ held₀ peak closed cells listing₀ at place₀ left₀ given oldest held listing place left =
+    Draining c left (outlets capacity oldest₀ held₀ peak closed given₀ cells listing₀ at) (outlets capacity oldest held peak closed given cells listing place)
 
 abbrev μ-loop : tie.MeasureT-loop
-μ-loop c given₀ capacity oldest₀ held₀ closed cells listing₀ at place₀ left₀ given oldest held listing place left = left
+μ-loop c given₀ capacity oldest₀ held₀ peak closed cells listing₀ at place₀ left₀ given oldest held listing place left = left
 
 -- the channel is there, in some lane
 below : (c : tie.Start Inv-loop μ-loop) → c .args .c < 32

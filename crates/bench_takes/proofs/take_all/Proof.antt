@@ -12,11 +12,11 @@ use Rattle.bench_takes.proofs.take_all.Statement.{statement}
 use Rattle.bench_takes.proofs.take_all.Tie as tie
 
 abbrev Inv-loop : tie.InvT-loop
-Inv-loop outputs after receiver channels given₀ capacity oldest₀ held₀ closed cells listing₀ at place₀ c₀ given oldest held listing place c =
-    Emptying receiver channels c (outlets capacity oldest₀ held₀ closed given₀ cells listing₀ at) (outlets capacity oldest held closed given cells listing place)
+Inv-loop outputs after receiver channels given₀ capacity oldest₀ held₀ peak closed cells listing₀ at place₀ c₀ given oldest held listing place c =
+    Emptying receiver channels c (outlets capacity oldest₀ held₀ peak closed given₀ cells listing₀ at) (outlets capacity oldest held peak closed given cells listing place)
 
 abbrev μ-loop : tie.MeasureT-loop
-μ-loop outputs after receiver channels given₀ capacity oldest₀ held₀ closed cells listing₀ at place₀ c₀ given oldest held listing place c = channels - c
+μ-loop outputs after receiver channels given₀ capacity oldest₀ held₀ peak closed cells listing₀ at place₀ c₀ given oldest held listing place c = channels - c
 
 loop-holds : tie.Need-loop-holds Inv-loop μ-loop
 loop-holds c = jump-on (c .before .pre .0 .first) (record { full = c .before .pre .1 .full; sofar = λ l d. empties-start d })

@@ -9,11 +9,11 @@ use Rattle.bench_turns.proofs.print_processes.Statement.{statement}
 use Rattle.bench_turns.proofs.print_processes.Tie as tie
 
 abbrev Inv-loop : tie.InvT-loop
-Inv-loop used code first sender receiver positions conditions moves capacity oldest held closed listing₀ at place₀ p₀ listing place p =
-    Lined used (arrays code first sender receiver positions conditions capacity oldest held closed) moves listing₀ at p place listing
+Inv-loop used code first sender receiver positions conditions moves capacity oldest held peak closed listing₀ at place₀ p₀ listing place p =
+    Lined used (arrays code first sender receiver positions conditions capacity oldest held peak closed) moves listing₀ at p place listing
 
 abbrev μ-loop : tie.MeasureT-loop
-μ-loop used code first sender receiver positions conditions moves capacity oldest held closed listing₀ at place₀ p₀ listing place p = used - p
+μ-loop used code first sender receiver positions conditions moves capacity oldest held peak closed listing₀ at place₀ p₀ listing place p = used - p
 
 -- the process of the loop is one of sixteen
 below : (c : tie.In-loop Inv-loop μ-loop) → c .before .loop .p < 16

@@ -12,10 +12,10 @@ use Rattle.drives.proofs.rounds_in.Tie as tie
 
 -- ---- the places: some round is made; the rounds are over; so is the rule after them
 abbrev some-of : tie.After-rounds-in → tie.Else1
-some-of c = c .before .before .before .before .before .before .before .before .before .before .before
+some-of c = c .before .before .before .before .before .before .before .before .before .before .before .before
 
 abbrev rounds-of : tie.After-next-in → tie.After-rounds-in
-rounds-of c = c .before .before .before .before .before .before .before .before
+rounds-of c = c .before .before .before .before .before .before .before .before .before
 
 abbrev rule-of : tie.After-struct-known3 → tie.After-next-in
 rule-of c = c .before .before .before
@@ -38,12 +38,12 @@ sub-rounds-in c = search needs
 
 rounds-in-requires : tie.Need-rounds-in-requires
 rounds-in-requires c κs =
-    let s = c .before .before .before .before .before .before .before .before .before .before .before in
+    let s = c .before .before .before .before .before .before .before .before .before .before .before .before in
     rounding (s .pre .0) (s .args .accepted)
 
 next-in-requires : tie.Need-next-in-requires
 next-in-requires c κs =
-    let r = c .before .before .before .before .before .before .before in
+    let r = c .before .before .before .before .before .before .before .before in
     let s = some-of r in
     relief-there (s .before .pre .0) (s .before .args .accepted) (s .if1 .left) (r .rounds-in .ensures)
 

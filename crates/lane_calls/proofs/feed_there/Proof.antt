@@ -27,8 +27,8 @@ part-channels-requires c κs = search needs
 
 feed-in-requires : tie.Need-feed-in-requires
 feed-in-requires c κs =
-    let s = c .before .before .before .before .before .before .before .before .before .before .before .before .before .before in
-    let p = c .before .before .before .before .before .part-channels .ensures in
+    let s = c .before .before .before .before .before .before .before .before .before .before .before .before .before .before .before .before in
+    let p = c .before .before .before .before .before .before .part-channels .ensures in
     feedable (s .args .lane) (s .pre .sound) (s .pre .there) (p .1) (sym (p .0)) (s .pre .long)
 
 join-channels-requires : tie.Need-join-channels-requires
@@ -42,9 +42,9 @@ same-length c = search needs
 
 returns-2 : tie.Need-returns-2
 returns-2 c =
-    let s = c .before .before .before .before .before .before .before .before .before .before .before .before .before .before .before .before .before .before .before .before .before .before in
-    rw (c .fed .ensures, c .before .join-channels .ensures, eq-eqb _ _ (c .before .before .before .before .before .before .before .before .before .before .before .before .before .before .before .before .before .before .before .before .if1 .left))
-    (rw (toZ-ofZ (s .fits .v)) at (c .before .before .before .before .before .before .before .feed-in .ensures .told (s .args .lane) (sym (c .before .before .before .before .before .before .before .before .before .before .before .before .before .part-channels .ensures .0)) (c .before .before .before .before .before .before .before .before .before .before .before .before .before .before .before .before .before .before .before .receiver-ended .ensures (s .args .cells .now))))
+    let s = c .before .before .before .before .before .before .before .before .before .before .before .before .before .before .before .before .before .before .before .before .before .before .before .before .before in
+    rw (c .fed .ensures, c .before .join-channels .ensures, eq-eqb _ _ (c .before .before .before .before .before .before .before .before .before .before .before .before .before .before .before .before .before .before .before .before .before .before .before .if1 .left))
+    (rw (toZ-ofZ (s .fits .v)) at (c .before .before .before .before .before .before .before .before .feed-in .ensures .told (s .args .lane) (sym (c .before .before .before .before .before .before .before .before .before .before .before .before .before .before .before .part-channels .ensures .0)) (c .before .before .before .before .before .before .before .before .before .before .before .before .before .before .before .before .before .before .before .before .before .before .receiver-ended .ensures (s .args .cells .now))))
 
 pub feed-there-spec : {M : Type 1} → statement M
 feed-there-spec =

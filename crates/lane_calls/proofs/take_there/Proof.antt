@@ -23,8 +23,8 @@ part-channels-requires c κs = search needs
 
 take-in-requires : tie.Need-take-in-requires
 take-in-requires c κs =
-    let s = c .before .before .before .before .before .before .before .before .before .before .before .before in
-    let p = c .before .before .before .before .part-channels .ensures in
+    let s = c .before .before .before .before .before .before .before .before .before .before .before .before .before .before in
+    let p = c .before .before .before .before .before .part-channels .ensures in
     takeable (s .args .lane) (s .pre .sound) (s .pre .there) (p .1) (sym (p .0)) (s .pre .long)
 
 join-channels-requires : tie.Need-join-channels-requires
@@ -35,8 +35,8 @@ taken-requires c κs = search needs
 
 returns-2 : tie.Need-returns-2
 returns-2 c =
-    rw (c .taken .ensures, c .before .join-channels .ensures, eq-eqb _ _ (c .before .before .before .before .before .before .before .before .before .before .before .before .before .before .before .before .before .if1 .left))
-    (c .before .before .before .before .before .before .take-in .ensures .told (c .before .before .before .before .before .before .before .before .before .before .before .before .before .before .before .before .before .before .before .args .lane) (sym (c .before .before .before .before .before .before .before .before .before .before .before .part-channels .ensures .0)))
+    rw (c .taken .ensures, c .before .join-channels .ensures, eq-eqb _ _ (c .before .before .before .before .before .before .before .before .before .before .before .before .before .before .before .before .before .before .before .before .if1 .left))
+    (c .before .before .before .before .before .before .before .take-in .ensures .told (c .before .before .before .before .before .before .before .before .before .before .before .before .before .before .before .before .before .before .before .before .before .before .args .lane) (sym (c .before .before .before .before .before .before .before .before .before .before .before .before .before .part-channels .ensures .0)))
 
 pub take-there-spec : {M : Type 1} → statement M
 take-there-spec =

@@ -13,11 +13,11 @@ use Rattle.lane_parts.proofs.join_channels.Statement.{statement}
 use Rattle.lane_parts.proofs.join_channels.Tie as tie
 
 abbrev Inv-loop : tie.InvT-loop
-Inv-loop capacity oldest held closed channels₀ c₀ channels c =
-    (c ≤ 32) × Copied (channelsOf capacity oldest held closed) noChannel channels₀ c channels
+Inv-loop capacity oldest held peak closed channels₀ c₀ channels c =
+    (c ≤ 32) × Copied (channelsOf capacity oldest held peak closed) noChannel channels₀ c channels
 
 abbrev μ-loop : tie.MeasureT-loop
-μ-loop capacity oldest held closed channels₀ c₀ channels c = 32 - c
+μ-loop capacity oldest held peak closed channels₀ c₀ channels c = 32 - c
 
 loop-holds : tie.Need-loop-holds Inv-loop μ-loop
 loop-holds c = (omega arith, filled-none _ noChannel _)
@@ -41,13 +41,13 @@ loop-again : tie.Need-loop-again Inv-loop μ-loop
 loop-again c =
     let l = c .before .before .loop in
     let s = c .before .before .before in
-    (omega arith, join-channel (channelsOf (s .args .capacity .now) (s .args .oldest .now) (s .args .held .now) (s .args .closed .now)) _ (l .channels) (l .c) (omega (arith, l .inv .1 .long)) (c .channel-at .ensures) (l .inv .1))
+    (omega arith, join-channel (channelsOf (s .args .capacity .now) (s .args .oldest .now) (s .args .held .now) (s .args .peak .now) (s .args .closed .now)) _ (l .channels) (l .c) (omega (arith, l .inv .1 .long)) (c .channel-at .ensures) (l .inv .1))
 
 returns : tie.Need-returns Inv-loop μ-loop
 returns c =
     let l = c .before .loop in
     let s = c .before .before .pre in
-    copied-all _ noChannel _ (l .c) (l .channels) (omega arith) (channels-length 32 _ _ _ _ (s .room) (s .place) (s .number) (s .shut) ∙ omega arith) (l .inv .1)
+    copied-all _ noChannel _ (l .c) (l .channels) (omega arith) (channels-length 32 _ _ _ _ _ (s .room) (s .place) (s .number) (s .mark) (s .shut) ∙ omega arith) (l .inv .1)
 
 pub join-channels-spec : {M : Type 1} → statement M
 join-channels-spec =

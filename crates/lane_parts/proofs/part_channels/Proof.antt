@@ -11,11 +11,11 @@ use Rattle.lane_parts.proofs.part_channels.Statement.{statement}
 use Rattle.lane_parts.proofs.part_channels.Tie as tie
 
 abbrev Inv-loop : tie.InvT-loop
-Inv-loop capacity₀ oldest₀ held₀ closed₀ channels c₀ capacity oldest held closed c =
-    (c ≤ 32) × ThirtyTwo capacity oldest held closed × Copied channels noChannel (channelsOf capacity₀ oldest₀ held₀ closed₀) c (channelsOf capacity oldest held closed)
+Inv-loop capacity₀ oldest₀ held₀ peak₀ closed₀ channels c₀ capacity oldest held peak closed c =
+    (c ≤ 32) × ThirtyTwo capacity oldest held peak closed × Copied channels noChannel (channelsOf capacity₀ oldest₀ held₀ peak₀ closed₀) c (channelsOf capacity oldest held peak closed)
 
 abbrev μ-loop : tie.MeasureT-loop
-μ-loop capacity₀ oldest₀ held₀ closed₀ channels c₀ capacity oldest held closed c = 32 - c
+μ-loop capacity₀ oldest₀ held₀ peak₀ closed₀ channels c₀ capacity oldest held peak closed c = 32 - c
 
 loop-holds : tie.Need-loop-holds Inv-loop μ-loop
 loop-holds c = (omega arith, c .pre, filled-none _ noChannel _)
@@ -44,6 +44,12 @@ mul-held c = search needs
 element-write-held : tie.Need-element-write-held Inv-loop μ-loop
 element-write-held c = search needs
 
+mul-peak : tie.Need-mul-peak Inv-loop μ-loop
+mul-peak c = search needs
+
+element-write-peak : tie.Need-element-write-peak Inv-loop μ-loop
+element-write-peak c = search needs
+
 element-write-closed : tie.Need-element-write-closed Inv-loop μ-loop
 element-write-closed c = search needs
 
@@ -56,7 +62,7 @@ loop-less c = search needs
 loop-again : tie.Need-loop-again Inv-loop μ-loop
 loop-again c =
     let l = c .before .before .loop in
-    (omega arith, keeps-channel (l .inv .1) (l .c) _ _ _ _, part-channel (c .before .before .before .args .t1) _ (l .inv .1) (l .c) (omega arith) (l .inv .2))
+    (omega arith, keeps-channel (l .inv .1) (l .c) _ _ _ _ _, part-channel (c .before .before .before .args .t1) _ (l .inv .1) (l .c) (omega arith) (l .inv .2))
 
 returns : tie.Need-returns Inv-loop μ-loop
 returns c =
@@ -78,6 +84,8 @@ part-channels-spec =
     element-write-oldest
     mul-held
     element-write-held
+    mul-peak
+    element-write-peak
     element-write-closed
     add-c
     loop-less

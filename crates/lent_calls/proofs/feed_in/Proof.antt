@@ -13,14 +13,14 @@ channel-at-requires : tie.Need-channel-at-requires
 channel-at-requires c κs = search needs
 
 returns : tie.Need-returns
-returns c = let s = c .before .before .before in feed-closed (s .pre .thirtyTwo) _ (c .before .channel-at .ensures) _ (s .pre) _ (c .if1 .taken)
+returns c = let s = c .before .before .before .before in feed-closed (s .pre .thirtyTwo) _ (c .before .channel-at .ensures) _ (s .pre) _ (c .if1 .taken)
 
 returns-2 : tie.Need-returns-2
-returns-2 c = let s = c .before .before .before .before in feed-gone (s .pre .thirtyTwo) _ (c .before .before .channel-at .ensures) _ (s .pre) (c .before .if1 .left) (c .if2 .taken)
+returns-2 c = let s = c .before .before .before .before .before in feed-gone (s .pre .thirtyTwo) _ (c .before .before .channel-at .ensures) _ (s .pre) (c .before .if1 .left) (c .if2 .taken)
 
 returns-3 : tie.Need-returns-3
 returns-3 c =
-    let s = c .before .before .before .before .before .before in
+    let s = c .before .before .before .before .before .before .before in
     feed-full (s .pre .thirtyTwo) _ (c .before .before .before .before .channel-at .ensures) _ (s .pre) (c .before .before .before .if1 .left) (c .before .before .if2 .left) (c .if3 .taken)
 
 slot-requires : tie.Need-slot-requires
@@ -34,7 +34,7 @@ slice-set-from-v c = search needs
 
 put-requires : tie.Need-put-requires
 put-requires c κs =
-    let s = c .before .before .before .before .before .before .before in
+    let s = c .before .before .before .before .before .before .before .before in
     let h = c .before .before .before .before .before .channel-at .result in
     let m : h .held ≤ h .capacity = rw (record-is (s .pre .thirtyTwo) _ (c .before .before .before .before .before .channel-at .ensures)) (s .pre .within) in
     omega (arith, c .before .if3 .left)
@@ -45,12 +45,18 @@ mul-held c = search needs
 element-write-held : tie.Need-element-write-held
 element-write-held c = search needs
 
+mul-peak : tie.Need-mul-peak
+mul-peak c = search needs
+
+element-write-peak : tie.Need-element-write-peak
+element-write-peak c = search needs
+
 same-length : tie.Need-same-length
 same-length c = search needs
 
 returns-4 : tie.Need-returns-4
 returns-4 c =
-    let s = c .before .before .before .before .before .before .before .before in
+    let s = c .before .before .before .before .before .before .before .before .before in
     rw (toZ-ofZ (s .fits .v))
     (feed-put (s .pre .thirtyTwo) _ (c .before .before .before .before .before .before .channel-at .ensures) (s .args .v) (s .pre) (c .before .before .before .before .before .if1 .left) (c .before .before .before .before .if2 .left) (c .before .before .if3 .left) (c .put .ensures) (c .before .slot .ensures .0))
 
@@ -68,5 +74,7 @@ feed-in-spec =
     put-requires
     mul-held
     element-write-held
+    mul-peak
+    element-write-peak
     same-length
     returns-4)

@@ -26,7 +26,7 @@ abbrev fixed-at : tie.Start → Fixed
 fixed-at c = fixed (c .args .code .now) (c .args .first .now) (c .args .sender .now) (c .args .receiver .now) (c .args .channels)
 
 abbrev parts-at : tie.Start → Parts
-parts-at c = parts (c .args .registers .now) (c .args .positions .now) (c .args .conditions .now) (c .args .moves .now) (c .args .capacity .now) (c .args .oldest .now) (c .args .held .now) (c .args .closed .now)
+parts-at c = parts (c .args .registers .now) (c .args .positions .now) (c .args .conditions .now) (c .args .moves .now) (c .args .capacity .now) (c .args .oldest .now) (c .args .held .now) (c .args .peak .now) (c .args .closed .now)
 
 -- the entry, from after the fetch
 abbrev fetched : tie.After-fetch → tie.Start
@@ -38,17 +38,17 @@ stands c n accepted lent sound there = at-is n accepted (parts-at (fetched c)) l
 
 -- the entry, from after the instruction
 abbrev begun : tie.After-step → tie.Start
-begun c = c .before .before .before .before .before .before .before .before .before .before .before .before .before
+begun c = c .before .before .before .before .before .before .before .before .before .before .before .before .before .before
 
 -- the channels that the instruction left
 abbrev channels-after : tie.After-step → List Channel
-channels-after c = channelsOf (begun c .args .capacity .now) (c .step .last .1 .1 .1 .1 .0) (c .step .last .1 .1 .1 .1 .1 .0) (c .step .last .1 .1 .1 .1 .1 .1 .0)
+channels-after c = channelsOf (begun c .args .capacity .now) (c .step .last .1 .1 .1 .1 .0) (c .step .last .1 .1 .1 .1 .1 .0) (c .step .last .1 .1 .1 .1 .1 .1 .0) (c .step .last .1 .1 .1 .1 .1 .1 .1 .0)
 
 -- what the instruction did and left
 turned : (c : tie.After-step) (n : Network) (accepted : ℕ) → Lent n (fixed-at (begun c)) → soundOf (laneOf n accepted (parts-at (begun c))) ≡ true → begun c .args .p < n .processes
-    → Turned (c .step .result) (begun c .args .p) (world (laneOf n accepted (parts-at (begun c))) (begun c .args .cells .now)) (world (withState (c .step .last .1 .0) (channels-after c) (laneOf n accepted (parts-at (begun c)))) (c .step .last .1 .1 .1 .1 .1 .1 .1 .1 .1 .0))
+    → Turned (c .step .result) (begun c .args .p) (world (laneOf n accepted (parts-at (begun c))) (begun c .args .cells .now)) (world (withState (c .step .last .1 .0) (channels-after c) (laneOf n accepted (parts-at (begun c)))) (c .step .last .1 .1 .1 .1 .1 .1 .1 .1 .1 .1 .0))
 turned c n accepted lent sound there =
-    c .step .ensures .0 (laneOf n accepted (parts-at (begun c))) (begun c .args .p) (gone-is n accepted (parts-at (begun c)) lent (begun c .pre .full) sound (begun c .args .p) there) refl (stands (c .before .before .before .before .before .before .before) n accepted lent sound there)
+    c .step .ensures .0 (laneOf n accepted (parts-at (begun c))) (begun c .args .p) (gone-is n accepted (parts-at (begun c)) lent (begun c .pre .full) sound (begun c .args .p) there) refl (stands (c .before .before .before .before .before .before .before .before) n accepted lent sound there)
 
 element-copy-out-if1 : tie.Need-element-copy-out-if1
 element-copy-out-if1 c = low-at c
@@ -78,7 +78,7 @@ mul-step : tie.Need-mul-step
 mul-step c = omega (arith, low-at (c .before .before .before .before .before .before .before))
 
 step-requires : tie.Need-step-requires
-step-requires c κs = let s = c .before .before .before .before .before .before .before .before .before .before .before .before in ready-is (s .pre .network) 0 _ (s .pre .lent) (s .pre .full) (s .pre .sound) (s .args .p) (s .pre .there) (stands (c .before .before .before .before .before .before) (s .pre .network) 0 (s .pre .lent) (s .pre .sound) (s .pre .there)) (s .pre .long)
+step-requires c κs = let s = c .before .before .before .before .before .before .before .before .before .before .before .before .before in ready-is (s .pre .network) 0 _ (s .pre .lent) (s .pre .full) (s .pre .sound) (s .args .p) (s .pre .there) (stands (c .before .before .before .before .before .before .before) (s .pre .network) 0 (s .pre .lent) (s .pre .sound) (s .pre .there)) (s .pre .long)
 
 enum-told : tie.Need-enum-told
 enum-told c = search needs
@@ -105,13 +105,13 @@ enum-told-3 : tie.Need-enum-told-3
 enum-told-3 c = search needs
 
 end-requires : tie.Need-end-requires
-end-requires c κs = (low-at (begun (c .before .before .before .before .before .before .before .before)), few-at (begun (c .before .before .before .before .before .before .before .before)), c .before .before .before .before .before .before .before .before .step .ensures .1)
+end-requires c κs = (low-at (begun (c .before .before .before .before .before .before .before .before .before)), few-at (begun (c .before .before .before .before .before .before .before .before .before)), c .before .before .before .before .before .before .before .before .before .step .ensures .1)
 
 enum-told-4 : tie.Need-enum-told-4
 enum-told-4 c = search needs
 
 end-requires-2 : tie.Need-end-requires-2
-end-requires-2 c κs = (low-at (begun (c .before .before .before .before .before .before .before .before)), few-at (begun (c .before .before .before .before .before .before .before .before)), c .before .before .before .before .before .before .before .before .step .ensures .1)
+end-requires-2 c κs = (low-at (begun (c .before .before .before .before .before .before .before .before .before)), few-at (begun (c .before .before .before .before .before .before .before .before .before)), c .before .before .before .before .before .before .before .before .before .step .ensures .1)
 
 same-length : tie.Need-same-length
 same-length c = search needs
@@ -145,18 +145,18 @@ same-length-4 c = search needs
 
 returns-5 : tie.Need-returns-5
 returns-5 c =
-    let s : tie.After-step = c .before .before .before .before .before .before .before .before .before in
+    let s : tie.After-step = c .before .before .before .before .before .before .before .before .before .before in
     picked-is (begun s .pre) (kept-conditions (begun s .pre .full .sixteen) _ _ _ (c .end .ensures .1) (c .end .ensures .2)) (c .end .ensures .4)
-    (λ n accepted lent sound there. done-stop (begun s .pre .full .sixteen) (turned s n accepted lent sound there) (c .before .before .before .before .before .before .enum-told3 .given .1) (c .end .ensures .0) (c .end .ensures .1) (c .end .ensures .2) (dropped-is lent (begun s .args .p) (channels-after s) (c .end .ensures .3)))
+    (λ n accepted lent sound there. done-stop (begun s .pre .full .sixteen) (turned s n accepted lent sound there) (c .before .before .before .before .before .before .before .enum-told3 .given .1) (c .end .ensures .0) (c .end .ensures .1) (c .end .ensures .2) (dropped-is lent (begun s .args .p) (channels-after s) (c .end .ensures .3)))
 
 same-length-5 : tie.Need-same-length-5
 same-length-5 c = search needs
 
 returns-6 : tie.Need-returns-6
 returns-6 c =
-    let s : tie.After-step = c .before .before .before .before .before .before .before .before .before in
+    let s : tie.After-step = c .before .before .before .before .before .before .before .before .before .before in
     picked-is (begun s .pre) (kept-conditions (begun s .pre .full .sixteen) _ _ _ (c .end2 .ensures .1) (c .end2 .ensures .2)) (c .end2 .ensures .4)
-    (λ n accepted lent sound there. done-fault (begun s .pre .full .sixteen) (turned s n accepted lent sound there) (c .before .before .before .before .before .before .enum-told4 .given .1) (c .end2 .ensures .0) (c .end2 .ensures .1) (c .end2 .ensures .2) (dropped-is lent (begun s .args .p) (channels-after s) (c .end2 .ensures .3)))
+    (λ n accepted lent sound there. done-fault (begun s .pre .full .sixteen) (turned s n accepted lent sound there) (c .before .before .before .before .before .before .before .enum-told4 .given .1) (c .end2 .ensures .0) (c .end2 .ensures .1) (c .end2 .ensures .2) (dropped-is lent (begun s .args .p) (channels-after s) (c .end2 .ensures .3)))
 
 pub pick-one-spec : {M : Type 1} → statement M
 pick-one-spec =

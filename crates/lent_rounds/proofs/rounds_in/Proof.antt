@@ -5,10 +5,10 @@ use Rattle.lent_rounds.proofs.rounds_in.Statement.{statement}
 use Rattle.lent_rounds.proofs.rounds_in.Tie as tie
 
 make-rounds-requires : tie.Need-make-rounds-requires
-make-rounds-requires c κs = c .before .before .before .before .before .before .before .before .before .before .before .before .before .before .before .before .before .before .before .pre
+make-rounds-requires c κs = c .before .before .before .before .before .before .before .before .before .before .before .before .before .before .before .before .before .before .before .before .before .pre
 
 same-length : tie.Need-same-length
-same-length c = c .before .make-rounds .ensures .long ∙ sym (c .before .before .before .before .before .before .before .before .before .before .before .before .before .before .before .before .before .before .before .before .before .pre .picking .long)
+same-length c = c .before .make-rounds .ensures .long ∙ sym (c .before .before .before .before .before .before .before .before .before .before .before .before .before .before .before .before .before .before .before .before .before .before .before .pre .picking .long)
 
 returns : tie.Need-returns
 returns c = c .before .make-rounds .ensures

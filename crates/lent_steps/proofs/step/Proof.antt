@@ -43,7 +43,7 @@ jump-negative-requires : tie.Need-jump-negative-requires
 jump-negative-requires c κs = (c .before .before .pre .low, a-low (c .before .before .pre))
 
 receive-requires : tie.Need-receive-requires
-receive-requires c κs = (c .before .before .before .before .before .match .keys12, a-low (c .before .before .before .before .before .before .pre), c .before .before .before .before .before .before .pre .low, c .before .before .before .before .before .before .pre .all, c .before .before .before .before .before .before .pre .place, c .before .before .before .before .before .before .pre .long)
+receive-requires c κs = (c .before .before .before .before .before .before .match .keys12, a-low (c .before .before .before .before .before .before .before .pre), c .before .before .before .before .before .before .before .pre .low, c .before .before .before .before .before .before .before .pre .all, c .before .before .before .before .before .before .before .pre .place, c .before .before .before .before .before .before .before .pre .long)
 
 channel-of-requires : tie.Need-channel-of-requires
 channel-of-requires c κs = search needs
@@ -55,10 +55,10 @@ ended-at-requires : tie.Need-ended-at-requires
 ended-at-requires c κs = c .before .before .before .pre .processes
 
 send-requires : tie.Need-send-requires
-send-requires c κs = (c .before .before .before .before .before .before .before .before .match .keys13, a-low (c .before .before .before .before .before .before .before .before .before .pre), c .before .before .before .before .before .before .before .before .before .pre .low, c .before .before .before .before .before .before .before .before .before .pre .all, c .before .before .before .before .before .before .before .before .before .pre .within, c .before .before .before .before .before .before .before .before .before .pre .long)
+send-requires c κs = (c .before .before .before .before .before .before .before .before .before .match .keys13, a-low (c .before .before .before .before .before .before .before .before .before .before .pre), c .before .before .before .before .before .before .before .before .before .before .pre .low, c .before .before .before .before .before .before .before .before .before .before .pre .all, c .before .before .before .before .before .before .before .before .before .before .pre .within, c .before .before .before .before .before .before .before .before .before .before .pre .long)
 
 close-requires : tie.Need-close-requires
-close-requires c κs = (c .before .before .before .match .keys14, c .before .before .before .before .pre .all)
+close-requires c κs = (c .before .before .before .before .match .keys14, c .before .before .before .before .before .pre .all)
 
 returns : tie.Need-returns
 returns c = ((λ l p g e at. stops at _ (c .match .keys1)), c .before .pre .all)
@@ -103,7 +103,7 @@ same-length-2 : tie.Need-same-length-2
 same-length-2 c = search needs
 
 returns-13 : tie.Need-returns-13
-returns-13 c = ((λ l p g e at. c .before .send .ensures .0 l p (c .before .before .before .before .before .before .before .ended-at .ensures ∙ rw (c .before .before .before .before .before .before .before .before .before .channel-of .ensures .0, g .ends) (sym (g .ended _))) e at), c .before .send .ensures .1)
+returns-13 c = ((λ l p g e at. c .before .send .ensures .0 l p (c .before .before .before .before .before .before .before .before .ended-at .ensures ∙ rw (c .before .before .before .before .before .before .before .before .before .before .channel-of .ensures .0, g .ends) (sym (g .ended _))) e at), c .before .send .ensures .1)
 
 returns-14 : tie.Need-returns-14
 returns-14 c = ((λ l p g e at. c .close .ensures .0 _ _ _ l p tt e at), c .close .ensures .1)

@@ -31,8 +31,8 @@ part-channels-requires c κs = search needs
 
 relieve-in-requires : tie.Need-relieve-in-requires
 relieve-in-requires c κs =
-    let d = c .before .before .before .before .before .before .before .before .before .before .before in
-    let p = d .before .before .before .before .before in
+    let d = c .before .before .before .before .before .before .before .before .before .before .before .before in
+    let p = d .before .before .before .before .before .before in
     let e = p .before .before .before .before .before .before .before .before .before .before in
     record {
       long = record { condition = p .part-processes .ensures .1 .condition; thirtyTwo = d .part-channels .ensures .1 };
@@ -53,9 +53,9 @@ same-length c = search needs
 
 returns-2 : tie.Need-returns-2
 returns-2 c =
-    let r = c .before .before .before .before .before .before .before .before in
-    let d = r .before .before .before .before .before .before .before .before .before .before .before .before in
-    let p = d .before .before .before .before .before in
+    let r = c .before .before .before .before .before .before .before .before .before in
+    let d = r .before .before .before .before .before .before .before .before .before .before .before .before .before in
+    let p = d .before .before .before .before .before .before in
     let e = p .before .before .before .before .before .before .before .before .before .before in
     rw (c .answered2 .ensures, c .before .join-channels .ensures)
     (r .relieve-in .ensures .leaves (e .before .before .before .args .lane) (parted (e .before .before .before .args .lane) (p .part-processes .ensures .1) (p .part-processes .ensures .0) (d .part-channels .ensures .0)) (is-sound e) refl)

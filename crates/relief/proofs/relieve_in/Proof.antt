@@ -24,7 +24,7 @@ use Rattle.relief.proofs.relieve_in.Tie as tie
 
 -- ---- what is known at a place
 abbrev arrays-at : tie.Start → Arrays
-arrays-at c = arrays (c .args .code .now) (c .args .first .now) (c .args .sender .now) (c .args .receiver .now) (c .args .positions .now) (c .args .conditions .now) (c .args .capacity .now) (c .args .oldest .now) (c .args .held .now) (c .args .closed .now)
+arrays-at c = arrays (c .args .code .now) (c .args .first .now) (c .args .sender .now) (c .args .receiver .now) (c .args .positions .now) (c .args .conditions .now) (c .args .capacity .now) (c .args .oldest .now) (c .args .held .now) (c .args .peak .now) (c .args .closed .now)
 
 abbrev start-of : tie.After-search → tie.Start
 start-of c = c .before .before .before .before .before .before .before .before .before .before

@@ -14,11 +14,11 @@ use Rattle.runs.proofs.bytes_in.Statement.{statement}
 use Rattle.runs.proofs.bytes_in.Tie as tie
 
 abbrev Inv-loop : tie.InvT-loop
-Inv-loop picks accepted used code first sender receiver channels registers₀ positions₀ conditions₀ moves₀ capacity₀ oldest₀ held₀ closed₀ cells₀ plain moved₀ enlarged₀ count₀ i₀ registers positions conditions moves capacity oldest held closed cells moved enlarged count i =
-    Way picks used (fixed code first sender receiver channels) accepted (parts registers₀ positions₀ conditions₀ moves₀ capacity₀ oldest₀ held₀ closed₀) cells₀ i moved enlarged count (parts registers positions conditions moves capacity oldest held closed) cells × (plain ≡ isGood (firstBad (isPick picks) 0 (length picks)))
+Inv-loop picks accepted used code first sender receiver channels registers₀ positions₀ conditions₀ moves₀ capacity₀ oldest₀ held₀ peak₀ closed₀ cells₀ plain moved₀ enlarged₀ count₀ i₀ registers positions conditions moves capacity oldest held peak closed cells moved enlarged count i =
+    Way picks used (fixed code first sender receiver channels) accepted (parts registers₀ positions₀ conditions₀ moves₀ capacity₀ oldest₀ held₀ peak₀ closed₀) cells₀ i moved enlarged count (parts registers positions conditions moves capacity oldest held peak closed) cells × (plain ≡ isGood (firstBad (isPick picks) 0 (length picks)))
 
 abbrev μ-loop : tie.MeasureT-loop
-μ-loop picks accepted used code first sender receiver channels registers₀ positions₀ conditions₀ moves₀ capacity₀ oldest₀ held₀ closed₀ cells₀ plain moved₀ enlarged₀ count₀ i₀ registers positions conditions moves capacity oldest held closed cells moved enlarged count i =
+μ-loop picks accepted used code first sender receiver channels registers₀ positions₀ conditions₀ moves₀ capacity₀ oldest₀ held₀ peak₀ closed₀ cells₀ plain moved₀ enlarged₀ count₀ i₀ registers positions conditions moves capacity oldest held peak closed cells moved enlarged count i =
     length picks - i
 
 -- ---- on the way
@@ -27,14 +27,14 @@ start-of c = c .before .before .before
 
 -- after the picks of a stretch
 abbrev loop-of : tie.After-rounds-in Inv-loop μ-loop → tie.At-loop Inv-loop μ-loop
-loop-of c = c .before .before .before .before .before .before .before .before .before .before .before .before .before
+loop-of c = c .before .before .before .before .before .before .before .before .before .before .before .before .before .before
 
 abbrev stretch-of : tie.After-rounds-in Inv-loop μ-loop → tie.After-stretch Inv-loop μ-loop
-stretch-of c = c .before .before .before .before .before .before .before .before .before .before .before
+stretch-of c = c .before .before .before .before .before .before .before .before .before .before .before .before
 
 -- after a relief
 abbrev rounds-of : tie.After-ease-in Inv-loop μ-loop → tie.After-rounds-in Inv-loop μ-loop
-rounds-of c = c .before .before .before .before .before .before .before .before .before .before
+rounds-of c = c .before .before .before .before .before .before .before .before .before .before .before
 
 -- ---- the needs
 no-relief-requires : tie.Need-no-relief-requires Inv-loop μ-loop
@@ -59,7 +59,7 @@ part-rounds-in-end c = c .stretch .ensures .within
 
 rounds-in-requires : tie.Need-rounds-in-requires Inv-loop μ-loop
 rounds-in-requires c κs =
-    let s = c .before .before .before .before .before .before .before .before .before .before in
+    let s = c .before .before .before .before .before .before .before .before .before .before .before in
     let l = s .before .before in
     picks-there (start-of l .pre .0) (l .loop .inv .0) (s .stretch .ensures)
 
@@ -72,7 +72,7 @@ add-moved c =
 
 ease-in-requires : tie.Need-ease-in-requires Inv-loop μ-loop
 ease-in-requires c κs =
-    let r = c .before .before .before .before .before .before .before .before .before in
+    let r = c .before .before .before .before .before .before .before .before .before .before in
     let l = loop-of r in
     relief-there (start-of l .pre .0) (way-stretch (start-of l .pre .0) (l .loop .inv .0) (stretch-of r .stretch .ensures) (r .rounds-in .ensures))
 
@@ -87,12 +87,12 @@ count-by-requires : tie.Need-count-by-requires Inv-loop μ-loop
 count-by-requires c κs = search needs
 
 add-i : tie.Need-add-i Inv-loop μ-loop
-add-i c = omega (arith, c .before .before .before .before .before .before .before .before .if1 .taken, start-of (loop-of (rounds-of (c .before))) .good .0 .0)
+add-i c = omega (arith, c .before .before .before .before .before .before .before .before .before .if1 .taken, start-of (loop-of (rounds-of (c .before))) .good .0 .0)
 
 loop-less : tie.Need-loop-less Inv-loop μ-loop
 loop-less c =
     let r = rounds-of (c .before) in
-    omega (arith, stretch-of r .stretch .ensures .from, c .before .before .before .before .before .before .before .before .if1 .taken)
+    omega (arith, stretch-of r .stretch .ensures .from, c .before .before .before .before .before .before .before .before .before .if1 .taken)
 
 loop-again : tie.Need-loop-again Inv-loop μ-loop
 loop-again c =
@@ -100,7 +100,7 @@ loop-again c =
     let l = loop-of r in
     let k = start-of l .pre .0 in
     let st = stretch-of r .stretch .ensures in
-    let h = c .before .before .before .before .before .before .before .before .if1 .taken in
+    let h = c .before .before .before .before .before .before .before .before .before .if1 .taken in
     (way-relief k (way-stretch k (l .loop .inv .0) st (r .rounds-in .ensures)) h (st .relief h) (c .before .ease-in .ensures) (c .count-by .ensures), l .loop .inv .1)
 
 loop-less-2 : tie.Need-loop-less-2 Inv-loop μ-loop

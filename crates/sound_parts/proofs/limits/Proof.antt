@@ -1,13 +1,13 @@
 -- `sound_parts::limits` meets its contract. The loop's invariant: each of the two numbers has the answer of the channels passed.
 -- Assumes nothing.
 use mathlib.Core.Path.{_≡_, refl, sym, ap₂, _∙_}
-use mathlib.Core.Bool.{Bool, true, false, _&&_, and-false}
+use mathlib.Core.Bool.{Bool, true, false, _&&_, and-false, false≢true}
 use mathlib.Core.List.{List}
 use Prim.Native.Nat.{ℕ, _+_, _-_, _*_, _≤_}
 use native.Mathlib.Nat.{zero-add}
 use native.Mathlib.Omega.{arith}
 use borrow.Author.Needs.{needs}
-use borrow.Author.Tests.{eq-eqb, ne-eqb}
+use borrow.Author.Tests.{eq-eqb, ne-eqb, leb-true, le-leb}
 use lib.Bits.{bitOr}
 use lib.Dec.{leb}
 use lib.ListN.{getD}
@@ -16,8 +16,8 @@ use Rattle.process.specs.declared.Channel.{Channel}
 use Rattle.process.specs.Channels.{noChannel}
 use Rattle.lane.specs.Sound.{channelSound}
 use Rattle.flags.specs.Clean.{clean}
-use Rattle.flags.proofs.Clean.{Tells, laid, one}
-use Rattle.sound_parts.proofs.Within.{places-clean, filling-clean}
+use Rattle.flags.proofs.Clean.{clean-or, Tells, laid, one}
+use Rattle.sound_parts.proofs.Within.{places-clean, above-clean}
 use Rattle.sound_parts.proofs.Pairs.{two-kinds}
 use Rattle.sound_parts.proofs.limits.Statement.{statement}
 use Rattle.sound_parts.proofs.limits.Tie as tie
@@ -27,7 +27,7 @@ abbrev placed : List Channel → ℕ → Bool
 placed channels c = let h = getD channels c noChannel in between 1 (h .capacity) 256 && leb (h .oldest) 255
 
 abbrev filled : List Channel → ℕ → Bool
-filled channels c = let h = getD channels c noChannel in leb (h .held) (h .capacity)
+filled channels c = let h = getD channels c noChannel in leb (h .held) (h .peak) && leb (h .peak) (h .capacity)
 
 abbrev Inv-loop : tie.InvT-loop
 Inv-loop used channels places₀ fillings₀ c₀ places fillings c =
@@ -48,6 +48,9 @@ array-copy-out-h c = search needs
 
 cast-capacity : tie.Need-cast-capacity Inv-loop μ-loop
 cast-capacity c = search needs
+
+cast-peak : tie.Need-cast-peak Inv-loop μ-loop
+cast-peak c = search needs
 
 cast-places : tie.Need-cast-places Inv-loop μ-loop
 cast-places c = search needs
@@ -70,6 +73,12 @@ add-fillings c = search needs
 sub-fillings : tie.Need-sub-fillings Inv-loop μ-loop
 sub-fillings c = search needs
 
+add-fillings-2 : tie.Need-add-fillings-2 Inv-loop μ-loop
+add-fillings-2 c = search needs
+
+sub-fillings-2 : tie.Need-sub-fillings-2 Inv-loop μ-loop
+sub-fillings-2 c = search needs
+
 add-c : tie.Need-add-c Inv-loop μ-loop
 add-c c = search needs
 
@@ -82,26 +91,33 @@ more mask test c x y p q = laid mask test 0 c 1 x y p (rw zero-add (one mask tes
 
 loop-again : tie.Need-loop-again Inv-loop μ-loop
 loop-again c =
-    let t = c .before .before .before .before .before in
+    let t = c .before .before .before .before .before .before in
     let l = t .loop in
     let h = getD (t .before .args .t1) (l .c) noChannel in (
       search needs,
       more 0xFF00FF00 (placed (t .before .args .t1)) (l .c) (l .places) (h .capacity + 0x10000 * h .oldest + 0xFFFFFFFF) (l .inv .1)
           (places-clean (h .capacity) (h .oldest) (search needs) (search needs)),
-      more 0x10000 (filled (t .before .args .t1)) (l .c) (l .fillings) (h .held + 0xFFFF - h .capacity) (l .inv .2)
-          (filling-clean (h .held) (h .capacity) (search needs) (search needs)),
+      more 0x10000 (filled (t .before .args .t1)) (l .c) (l .fillings) (bitOr (h .held + 0xFFFF - h .peak) (h .peak + 0xFFFF - h .capacity)) (l .inv .2)
+          (clean-or 0x10000 (h .held + 0xFFFF - h .peak) (h .peak + 0xFFFF - h .capacity)
+          ∙ ap₂ _&&_ (above-clean (h .held) (h .peak) (search needs) (search needs)) (above-clean (h .peak) (h .capacity) (search needs) (search needs))),
     )
 
--- the limits of a channel are the two tests
-turned : (a b c : Bool) → (a && b && c && true && true) ≡ (b && c && a)
-turned true true true = refl
-turned true true false = refl
-turned true false c = refl
-turned false b c = sym (and-false (b && c))
+-- the limits of a channel are the two tests: that no more is held than the capacity follows from the second
+turned : (a b c d e : Bool) → (d ≡ true → e ≡ true → a ≡ true) → (a && b && c && d && e && true && true) ≡ (b && c && (d && e))
+turned true true true true true f = refl
+turned true true true true false f = refl
+turned true true true false e f = refl
+turned true true false d e f = refl
+turned true false c d e f = refl
+turned false b c true true f = absurd (false≢true (f refl refl))
+turned false b c true false f = sym (and-false (b && c))
+turned false b c false e f = sym (and-false (b && c))
 
-two : (h : Channel) → channelSound false false h ≡ (between 1 (h .capacity) 256 && leb (h .oldest) 255 && leb (h .held) (h .capacity))
+two : (h : Channel) → channelSound false false h ≡ (between 1 (h .capacity) 256 && leb (h .oldest) 255 && (leb (h .held) (h .peak) && leb (h .peak) (h .capacity)))
 unfolding channelSound
-two h = turned (leb (h .held) (h .capacity)) (between 1 (h .capacity) 256) (leb (h .oldest) 255)
+two h =
+    turned (leb (h .held) (h .capacity)) (between 1 (h .capacity) 256) (leb (h .oldest) 255) (leb (h .held) (h .peak)) (leb (h .peak) (h .capacity))
+    (λ d e. le-leb (h .held) (h .capacity) (omega (arith, leb-true (h .held) (h .peak) d, leb-true (h .peak) (h .capacity) e)))
 
 -- what the two numbers say of all channels in use, b the first of them
 told : (c : tie.After-loop Inv-loop μ-loop) (b : Bool) → clean 0xFF00FF00 (c .before .loop .places) ≡ b
@@ -132,6 +148,7 @@ limits-spec =
     mul-h
     array-copy-out-h
     cast-capacity
+    cast-peak
     cast-places
     mul-places
     add-places
@@ -139,6 +156,8 @@ limits-spec =
     cast-fillings
     add-fillings
     sub-fillings
+    add-fillings-2
+    sub-fillings-2
     add-c
     loop-less
     loop-again

@@ -14,14 +14,14 @@ use Rattle.waits.proofs.some_wants_room.Statement.{statement}
 use Rattle.waits.proofs.some_wants_room.Tie as tie
 
 abbrev Inv-loop : tie.InvT-loop
-Inv-loop used code first sender receiver positions conditions capacity oldest held closed q₀ q =
-    (q ≤ used) × ((l : Lane) → Shows (arrays code first sender receiver positions conditions capacity oldest held closed) l → soundOf l ≡ true → used ≡ l .network .processes → someWantsRoom l q (used - q) ≡ someWantsRoom l 0 (l .network .processes))
+Inv-loop used code first sender receiver positions conditions capacity oldest held peak closed q₀ q =
+    (q ≤ used) × ((l : Lane) → Shows (arrays code first sender receiver positions conditions capacity oldest held peak closed) l → soundOf l ≡ true → used ≡ l .network .processes → someWantsRoom l q (used - q) ≡ someWantsRoom l 0 (l .network .processes))
 
 abbrev μ-loop : tie.MeasureT-loop
-μ-loop used code first sender receiver positions conditions capacity oldest held closed q₀ q = used - q
+μ-loop used code first sender receiver positions conditions capacity oldest held peak closed q₀ q = used - q
 
 abbrev arrays-at : tie.Start Inv-loop μ-loop → Arrays
-arrays-at c = arrays (c .args .code .now) (c .args .first .now) (c .args .sender .now) (c .args .receiver .now) (c .args .positions .now) (c .args .conditions .now) (c .args .capacity .now) (c .args .oldest .now) (c .args .held .now) (c .args .closed .now)
+arrays-at c = arrays (c .args .code .now) (c .args .first .now) (c .args .sender .now) (c .args .receiver .now) (c .args .positions .now) (c .args .conditions .now) (c .args .capacity .now) (c .args .oldest .now) (c .args .held .now) (c .args .peak .now) (c .args .closed .now)
 
 -- the process of a turn is there
 there-at : (c : tie.In-loop Inv-loop μ-loop) → c .before .loop .q < c .before .before .pre .lane .network .processes

@@ -11,7 +11,7 @@ use Rattle.waits.proofs.wait_at.Tie as tie
 
 -- at the entry: the arrays, and the process is one of sixteen
 abbrev arrays-at : tie.Start → Arrays
-arrays-at c = arrays (c .args .code .now) (c .args .first .now) (c .args .sender .now) (c .args .receiver .now) (c .args .positions .now) (c .args .conditions .now) (c .args .capacity .now) (c .args .oldest .now) (c .args .held .now) (c .args .closed .now)
+arrays-at c = arrays (c .args .code .now) (c .args .first .now) (c .args .sender .now) (c .args .receiver .now) (c .args .positions .now) (c .args .conditions .now) (c .args .capacity .now) (c .args .oldest .now) (c .args .held .now) (c .args .peak .now) (c .args .closed .now)
 
 low-at : (c : tie.Start) → c .args .p < 16
 low-at c = low (arrays-at c) (c .pre .lane) (c .pre .shown) (sound-says _ (c .pre .sound)) (c .args .p) (c .pre .there)

@@ -9,14 +9,14 @@ use Rattle.waits.proofs.waits_in.Statement.{statement}
 use Rattle.waits.proofs.waits_in.Tie as tie
 
 abbrev Inv-loop : tie.InvT-loop
-Inv-loop used code first sender receiver positions conditions capacity oldest held closed points₀ full₀ channel₀ p₀ points full channel p =
-    Partly used (arrays code first sender receiver positions conditions capacity oldest held closed) p points full channel
+Inv-loop used code first sender receiver positions conditions capacity oldest held peak closed points₀ full₀ channel₀ p₀ points full channel p =
+    Partly used (arrays code first sender receiver positions conditions capacity oldest held peak closed) p points full channel
 
 abbrev μ-loop : tie.MeasureT-loop
-μ-loop used code first sender receiver positions conditions capacity oldest held closed points₀ full₀ channel₀ p₀ points full channel p = used - p
+μ-loop used code first sender receiver positions conditions capacity oldest held peak closed points₀ full₀ channel₀ p₀ points full channel p = used - p
 
 abbrev arrays-at : tie.Start Inv-loop μ-loop → Arrays
-arrays-at c = arrays (c .args .code .now) (c .args .first .now) (c .args .sender .now) (c .args .receiver .now) (c .args .positions .now) (c .args .conditions .now) (c .args .capacity .now) (c .args .oldest .now) (c .args .held .now) (c .args .closed .now)
+arrays-at c = arrays (c .args .code .now) (c .args .first .now) (c .args .sender .now) (c .args .receiver .now) (c .args .positions .now) (c .args .conditions .now) (c .args .capacity .now) (c .args .oldest .now) (c .args .held .now) (c .args .peak .now) (c .args .closed .now)
 
 -- the process of a turn is there
 there-at : (c : tie.In-loop Inv-loop μ-loop) → c .before .loop .p < c .before .before .pre .0 .lane .network .processes

@@ -29,7 +29,7 @@ receiver-long : (c : tie.Start) → length (c .args .net .receiver) ≡ 32
 receiver-long c = simp length-map at (c .good .0 .1 .1 .1 .1 .1 .1 .1 .0 .1 .0 .1)
 
 abbrev start-of : tie.After-play-arg → tie.Start
-start-of c = c .before .before .before .before .before .before .before .before .before .before .before .before .before .before .before .before .before .before .before .before .before .before .before .before .before .before .before .before .before .before .before .before
+start-of c = c .before .before .before .before .before .before .before .before .before .before .before .before .before .before .before .before .before .before .before .before .before .before .before .before .before .before .before .before .before .before .before .before .before
 
 few : (c : tie.Start) → c .args .net .channels ≤ 32
 few c = passed (c .args .net) (c .pre .0) .channels-high
@@ -47,15 +47,15 @@ play-requires : tie.Need-play-requires
 play-requires c κs =
     let s = start-of c in (
       all-named (s .args .net) (s .args .picks .now) (s .pre .2),
-      c .before .before .before .before .before .before .before .before .before .before .before .before .before .before .before .before .before .before .before .before .before .outer-after .ensures .0,
-      c .before .before .before .before .before .before .before .before .before .before .before .before .before .before .before .before .before .before .outer-after2 .ensures .0,
+      c .before .before .before .before .before .before .before .before .before .before .before .before .before .before .before .before .before .before .before .before .before .before .outer-after .ensures .0,
+      c .before .before .before .before .before .before .before .before .before .before .before .before .before .before .before .before .before .before .before .outer-after2 .ensures .0,
       first-ready (s .args .net) (capacity-long s) (s .args .input .now) (s .args .picks .now) (s .args .listing .now) (fits s) (s .pre .0)
           (sender-long s) (receiver-long s),
     )
 
 print-processes-requires : tie.Need-print-processes-requires
 print-processes-requires c κs =
-    let p = c .before .before .before .before .before .before .before .before .before .before .before .before .before .before .before in
+    let p = c .before .before .before .before .before .before .before .before .before .before .before .before .before .before .before .before in
     let s = start-of (p .before) in
     printable (s .args .net) (capacity-long s) (s .args .input .now) (s .args .picks .now) (s .args .listing .now) (fits s) (s .pre .0) (p .play .ensures)
 
@@ -65,7 +65,7 @@ same-length c = search needs
 returns : tie.Need-returns
 returns c =
     let q = c .before .before in
-    let p = q .before .before .before .before .before .before .before .before .before .before .before .before .before .before .before .before in
+    let p = q .before .before .before .before .before .before .before .before .before .before .before .before .before .before .before .before .before in
     let s = start-of (p .before) in
     listed (s .args .net) (capacity-long s) (s .args .input .now) (s .args .picks .now) (s .args .listing .now) (fits s) (s .pre .0) (p .play .ensures)
     (q .print-processes .ensures)

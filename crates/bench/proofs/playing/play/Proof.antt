@@ -12,18 +12,18 @@ use Rattle.bench.proofs.playing.play.Statement.{statement}
 use Rattle.bench.proofs.playing.play.Tie as tie
 
 abbrev Inv-loop : tie.InvT-loop
-Inv-loop picks input inputs afterInput outputs afterOutput next₀ given₀ used code first sender receiver channels registers₀ positions₀ conditions₀ moves₀ capacity₀ oldest₀ held₀ closed₀ cells₀ listing₀ place₀ i₀ next given registers positions conditions moves capacity oldest held closed cells listing place i =
+Inv-loop picks input inputs afterInput outputs afterOutput next₀ given₀ used code first sender receiver channels registers₀ positions₀ conditions₀ moves₀ capacity₀ oldest₀ held₀ peak₀ closed₀ cells₀ listing₀ place₀ i₀ next given registers positions conditions moves capacity oldest held peak closed cells listing place i =
     Partway picks used (fixed code first sender receiver channels) input
-    (turn (parts registers₀ positions₀ conditions₀ moves₀ capacity₀ oldest₀ held₀ closed₀) cells₀ next₀ given₀ listing₀ 0)
+    (turn (parts registers₀ positions₀ conditions₀ moves₀ capacity₀ oldest₀ held₀ peak₀ closed₀) cells₀ next₀ given₀ listing₀ 0)
     i
-    (turn (parts registers positions conditions moves capacity oldest held closed) cells next given listing place)
+    (turn (parts registers positions conditions moves capacity oldest held peak closed) cells next given listing place)
 
 abbrev μ-loop : tie.MeasureT-loop
-μ-loop picks input inputs afterInput outputs afterOutput next₀ given₀ used code first sender receiver channels registers₀ positions₀ conditions₀ moves₀ capacity₀ oldest₀ held₀ closed₀ cells₀ listing₀ place₀ i₀ next given registers positions conditions moves capacity oldest held closed cells listing place i =
+μ-loop picks input inputs afterInput outputs afterOutput next₀ given₀ used code first sender receiver channels registers₀ positions₀ conditions₀ moves₀ capacity₀ oldest₀ held₀ peak₀ closed₀ cells₀ listing₀ place₀ i₀ next given registers positions conditions moves capacity oldest held peak closed cells listing place i =
     length picks - i
 
-abbrev test-of-call : tie.After-play-one-arg12 Inv-loop μ-loop → tie.In-loop Inv-loop μ-loop
-test-of-call c = c .before .before .before .before .before .before .before .before .before .before .before .before .before
+abbrev test-of-call : tie.After-play-one-arg13 Inv-loop μ-loop → tie.In-loop Inv-loop μ-loop
+test-of-call c = c .before .before .before .before .before .before .before .before .before .before .before .before .before .before
 
 abbrev test-of : tie.After-slice-known2 Inv-loop μ-loop → tie.In-loop Inv-loop μ-loop
 test-of c = test-of-call (c .before .before .before .before)

@@ -18,11 +18,11 @@ use Rattle.lent_picks.proofs.finish.drop_all.Statement.{statement}
 use Rattle.lent_picks.proofs.finish.drop_all.Tie as tie
 
 abbrev Inv-loop : tie.InvT-loop
-Inv-loop sender receiver count capacity oldest held₀ closed₀ p c₀ held closed c =
-    ThirtyTwo capacity oldest held closed × (take c (channelsOf capacity oldest held closed) ++ dropFrom (ends sender receiver count) p c (drop c (channelsOf capacity oldest held closed)) ≡ dropFrom (ends sender receiver count) p 0 (channelsOf capacity oldest held₀ closed₀))
+Inv-loop sender receiver count capacity oldest held₀ peak closed₀ p c₀ held closed c =
+    ThirtyTwo capacity oldest held peak closed × (take c (channelsOf capacity oldest held peak closed) ++ dropFrom (ends sender receiver count) p c (drop c (channelsOf capacity oldest held peak closed)) ≡ dropFrom (ends sender receiver count) p 0 (channelsOf capacity oldest held₀ peak closed₀))
 
 abbrev μ-loop : tie.MeasureT-loop
-μ-loop sender receiver count capacity oldest held₀ closed₀ p c₀ held closed c = count - c
+μ-loop sender receiver count capacity oldest held₀ peak closed₀ p c₀ held closed c = count - c
 
 loop-holds : tie.Need-loop-holds Inv-loop μ-loop
 loop-holds c = (c .pre .1, refl)
@@ -65,7 +65,7 @@ loop-again c =
     let l = c .before .before .before .before .before .before .before .before .before .loop in
     let a = c .before .before .before .before .before .before .before .before .before .before .args in
     let n : Network = ends (a .sender .now) (a .receiver .now) (a .count) in
-    let m : l .c < length (channelsOf (a .capacity .now) (a .oldest .now) (l .held) (l .closed)) = rw (channels-length 32 _ _ _ _ (l .inv .0 .room) (l .inv .0 .place) (l .inv .0 .number) (l .inv .0 .shut)) (omega (arith, c .before .before .before .before .before .before .before .before .loop-test .taken, c .before .before .before .before .before .before .before .before .before .before .pre .0)) in (
+    let m : l .c < length (channelsOf (a .capacity .now) (a .oldest .now) (l .held) (a .peak .now) (l .closed)) = rw (channels-length 32 _ _ _ _ _ (l .inv .0 .room) (l .inv .0 .place) (l .inv .0 .number) (l .inv .0 .mark) (l .inv .0 .shut)) (omega (arith, c .before .before .before .before .before .before .before .before .loop-test .taken, c .before .before .before .before .before .before .before .before .before .before .pre .0)) in (
       keeps-dropped (l .inv .0) _ _ _,
       rw (put-dropped (l .inv .0) (l .c) (c .before .channel-at .ensures) (eqb (c .before .before .before .before .before .before .wide .result) (a .p)) (eqb (c .before .before .before .before .wide2 .result) (a .p)) (c .drop-one .ensures))
           (drop-more n (a .p) (l .c) _ (c .drop-one .result) m
