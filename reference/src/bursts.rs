@@ -24,7 +24,8 @@ pub fn edits(random: &mut Random, lane: &Lane) -> Option<(usize, Vec<Edit>)> {
         1 | 2 => odd::end(random, lane, records[number].receiver.into()),
         3 => {
             let oldest = odd::oldest(random, lane, number);
-            let wide = Channel { capacity: CAPACITY, oldest, held: 0, closed: false };
+            let peak = odd::peak(random, 0, CAPACITY);
+            let wide = Channel { capacity: CAPACITY, oldest, held: 0, peak, closed: false };
             vec![Edit::Channel(number, wide)]
         }
         _ => vec![odd::channel(random, lane, number)],

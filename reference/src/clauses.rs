@@ -215,7 +215,7 @@ const NETWORK: [(&str, Breaks); 29] = [
     }),
 ];
 
-const STATE: [(&str, Breaks); 19] = [
+const STATE: [(&str, Breaks); 23] = [
     ("a position at the count", |random, lane| {
         let number = random.below(usize::from(lane.network.processes));
         Some(stand(lane, number, lane.network.slots[number].count))
@@ -245,7 +245,8 @@ const STATE: [(&str, Breaks); 19] = [
     }),
     ("a capacity of 0", |random, lane| {
         let (number, channel) = channel_with(random, lane, |_, channel| channel.held == 0)?;
-        Some(Edit::Channel(number, Channel { capacity: 0, ..channel }))
+        // A peak above that would be wrong too.
+        Some(Edit::Channel(number, Channel { capacity: 0, peak: 0, ..channel }))
     }),
     ("a capacity above 256", |random, lane| {
         let (number, channel) = channel_with(random, lane, |_, _| true)?;
@@ -262,11 +263,34 @@ const STATE: [(&str, Breaks); 19] = [
         let (number, channel) = channel_with(random, lane, heard)?;
         let over = channel.capacity + 1;
         let held = random.one(&[over, over, channel.capacity + 256, 65_535]);
-        Some(Edit::Channel(number, Channel { held, ..channel }))
+        // Then the peak is below that, or above the capacity as well.
+        let peak = random.one(&[held, channel.capacity]);
+        Some(Edit::Channel(number, Channel { held, peak, ..channel }))
     }),
     ("a capacity below what is held", |random, lane| {
         let (number, channel) = channel_with(random, lane, |_, channel| channel.held > 1)?;
         let capacity = random.one(&[channel.held - 1, 1]);
+        let peak = random.one(&[channel.peak, capacity]);
+        Some(Edit::Channel(number, Channel { capacity, peak, ..channel }))
+    }),
+    ("a peak below what is held", |random, lane| {
+        let (number, channel) = channel_with(random, lane, |_, channel| channel.held > 0)?;
+        let under = channel.held - 1;
+        let any = random.below(channel.held.into()) as u16;
+        let peak = random.one(&[under, under, 0, any]);
+        Some(Edit::Channel(number, Channel { peak, ..channel }))
+    }),
+    ("a peak above the capacity", |random, lane| {
+        let (number, channel) = channel_with(random, lane, |_, _| true)?;
+        let over = channel.capacity + 1;
+        let peak = random.one(&[over, over, channel.capacity + 256, channel.peak + 256, 65_535]);
+        Some(Edit::Channel(number, Channel { peak, ..channel }))
+    }),
+    ("a capacity below the peak", |random, lane| {
+        let least = |channel: Channel| channel.held.max(1);
+        let (number, channel) = channel_with(random, lane, |_, c| c.peak > least(c))?;
+        let any = random.between(least(channel).into(), usize::from(channel.peak) - 1) as u16;
+        let capacity = random.one(&[channel.peak - 1, least(channel), any]);
         Some(Edit::Channel(number, Channel { capacity, ..channel }))
     }),
     ("a channel that is open though its sender ended", |random, lane| {
@@ -284,7 +308,8 @@ const STATE: [(&str, Breaks); 19] = [
         let unheard = |record: Record, _| ended(lane, record.receiver);
         let (number, channel) = channel_with(random, lane, unheard)?;
         let held = random.between(1, channel.capacity.into()) as u16;
-        Some(Edit::Channel(number, Channel { held, ..channel }))
+        let peak = channel.peak.max(held);
+        Some(Edit::Channel(number, Channel { held, peak, ..channel }))
     }),
     ("a receiver that ended and holds", |random, lane| {
         let (number, outgoing, incoming) = ends_of_one(random, lane);
@@ -303,6 +328,10 @@ const STATE: [(&str, Breaks); 19] = [
     ("held beyond C", |random, lane| {
         let held = random.one(&[1, 256, 65_535]);
         spare_channel(random, lane, Channel { held, ..Channel::default() })
+    }),
+    ("a peak beyond C", |random, lane| {
+        let peak = random.one(&[1, 256, 65_535]);
+        spare_channel(random, lane, Channel { peak, ..Channel::default() })
     }),
     ("closed beyond C", |random, lane| {
         spare_channel(random, lane, Channel { closed: true, ..Channel::default() })

@@ -31,6 +31,8 @@ pub struct Channel {
     /// The place of the oldest message, 0 to 255.
     pub oldest: u16,
     pub held: u16,
+    /// The high-water mark: the most messages held since the start.
+    pub peak: u16,
     pub closed: bool,
 }
 
@@ -55,6 +57,7 @@ impl Channel {
     pub fn put(&mut self, cells: &mut Cells, number: u8, value: i32) {
         cells[place(number, self.oldest + self.held)] = value;
         self.held += 1;
+        self.peak = self.peak.max(self.held);
     }
 
     /// Gives the oldest message. Only where one is held.
@@ -146,8 +149,10 @@ impl Lane {
         let (used, spare) = self.channels.split_at(usize::from(self.network.channels));
         let ended = |end: u8| end != OUTSIDE && self.has_ended(usize::from(end));
         let sound = |(channel, record): (&Channel, &Record)| {
+            // What is held is at most the peak, and so at most the capacity.
             (1..=CAPACITY).contains(&channel.capacity)
-                && channel.held <= channel.capacity
+                && channel.held <= channel.peak
+                && channel.peak <= channel.capacity
                 && channel.oldest < CAPACITY
                 && (!ended(record.sender) || channel.closed)
                 && (!ended(record.receiver) || channel.held == 0)

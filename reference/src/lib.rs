@@ -31,6 +31,7 @@
 //! | `odd`      | edits after which it is sound, but odd                     |
 //! | `bursts`   | bursts for scripts, and how much of one must go in         |
 //! | `met`      | what scripts have met                                      |
+//! | `fillings` | of these, the cases of the most that channels have held    |
 
 pub mod bench;
 pub mod board;
@@ -41,6 +42,7 @@ pub mod clauses;
 pub mod coverage;
 pub mod damage;
 pub mod file;
+pub mod fillings;
 pub mod gen;
 pub mod lane;
 pub mod limit;

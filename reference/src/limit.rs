@@ -232,6 +232,14 @@ impl Course {
         channels.any(|(record, channel)| record.capacity < CAPACITY && channel.capacity == CAPACITY)
     }
 
+    /// Whether an enlarged channel held as much as it then had room for.
+    pub fn filled_a_grown_one(&self) -> bool {
+        let mut channels = self.lane.network.used_records().iter().zip(&self.lane.channels);
+        channels.any(|(record, channel)| {
+            channel.capacity > record.capacity && channel.peak == channel.capacity
+        })
+    }
+
     /// Holds a drive of the same lane to these rounds.
     pub fn drive(&self, board: &Board, picks: u64) {
         let (mut lane, mut cells) = (board.lane.clone(), board.cells.clone());

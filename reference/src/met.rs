@@ -5,6 +5,7 @@ use crate::bench::Watch;
 use crate::board::Board;
 use crate::calls::Answer;
 use crate::coverage::{names_of_none, Counted, Picks};
+use crate::fillings;
 use crate::lane::{Cells, Channel, Lane, Wait, CELLS};
 use crate::limit::{Course, Limit};
 use crate::network::{CAPACITY, CHANNELS, OUTSIDE, PROCESSES};
@@ -95,7 +96,7 @@ impl Played<'_> {
     }
 
     /// How many values of a burst went in.
-    fn fed(&self) -> u64 {
+    pub(crate) fn fed(&self) -> u64 {
         let number = self.printed.strip_prefix(": fed ").and_then(|text| text.split(' ').next());
         number.and_then(|text| text.parse().ok()).unwrap_or(0)
     }
@@ -189,6 +190,7 @@ impl Met {
         let accepted = ["accepted", "value", "end", "enlarged"].contains(&answer);
         let counts = accepted && played.word() != EMPTY_BURST;
         self.meet("accepted at its largest", counts && lane.accepted == u64::MAX);
+        fillings::count(self, played, call, answer);
         match *call {
             Call::Pick(process) => self.pick(lane, process, answer),
             Call::Feed(channel, _) => self.feed(lane, channel, answer),
@@ -282,6 +284,7 @@ impl Met {
         self.meet("limit: enlarged", exactly && course.enlarged > 0);
         self.meet("limit: enlarged several times", exactly && course.enlarged > 1);
         self.meet("limit: enlarged to 256", course.grew_to_the_largest());
+        self.meet("limit: a peak equal to a grown capacity", course.filled_a_grown_one());
         let all = course.rounds == limit.rounds_left(board);
         self.meet("limit: all N + G + 1 rounds made", exactly && all);
         self.meet("limit: an output filled", limit.fills_an_output());

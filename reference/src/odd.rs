@@ -125,9 +125,16 @@ pub fn channel(random: &mut Random, lane: &Lane, number: usize) -> Edit {
         1 => random.below(usize::from(capacity) + 1) as u16,
         _ => capacity,
     };
+    let peak = peak(random, held, capacity);
     let closed = ended(lane, record.sender) || random.percent(25);
     let oldest = oldest(random, lane, number);
-    Edit::Channel(number, Channel { capacity, oldest, held, closed })
+    Edit::Channel(number, Channel { capacity, oldest, held, peak, closed })
+}
+
+/// As many as are held, as many as there is room for, or any number between.
+pub fn peak(random: &mut Random, held: u16, capacity: u16) -> u16 {
+    let any = random.between(held.into(), capacity.into()) as u16;
+    random.one(&[held, held, capacity, any])
 }
 
 /// The place as it is, near the last one, or any.
@@ -225,7 +232,8 @@ pub fn jam(random: &mut Random, lane: &Lane) -> Vec<Edit> {
             at = record.sender.into();
             (lane.channels[number].capacity, 0)
         };
-        let channel = Channel { capacity, oldest, held, closed: false };
+        let peak = peak(random, held, capacity);
+        let channel = Channel { capacity, oldest, held, peak, closed: false };
         channels.push(Edit::Channel(number, channel));
     }
     // The processes first: a live one asks nothing of its channels.

@@ -210,12 +210,9 @@ impl State {
             write!(to, "; process {number} position {position} {condition} moves {moves}")?;
         }
         for (number, channel) in changed(&self.lane.channels, &before.lane.channels) {
-            let Channel { capacity, oldest, held, closed } = channel;
-            let state = state_word(*closed);
-            write!(
-                to,
-                "; channel {number} capacity {capacity} oldest {oldest} held {held} {state}"
-            )?;
+            let Channel { capacity, oldest, held, peak, closed } = channel;
+            write!(to, "; channel {number} capacity {capacity} oldest {oldest} held {held}")?;
+            write!(to, " peak {peak} {}", state_word(*closed))?;
         }
         for (number, value) in changed(&self.cells, &before.cells) {
             write!(to, "; cell {number} is {value}")?;

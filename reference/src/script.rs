@@ -147,22 +147,27 @@ fn edit(words: &[&str]) -> Option<Edit> {
         ["register", register, text] => {
             Edit::Register(number(register, PROCESSES * REGISTERS - 1)?, value(text)?)
         }
-        ["channel", channel, "capacity", capacity, "oldest", oldest, "held", held, state] => {
-            Edit::Channel(
-                number(channel, CHANNELS - 1)?,
-                Channel {
-                    capacity: number(capacity, u16::MAX)?,
-                    oldest: number(oldest, u16::MAX)?,
-                    held: number(held, u16::MAX)?,
-                    closed: closed(state)?,
-                },
-            )
+        ["channel", channel, ref words @ ..] => {
+            Edit::Channel(number(channel, CHANNELS - 1)?, channel_state(words)?)
         }
         ["cell", cell, text] => Edit::Cell(number(cell, ALL_CELLS - 1)?, value(text)?),
         ["accepted", count] => Edit::Accepted(number(count, u64::MAX)?),
         _ => return None,
     };
     Some(edit)
+}
+
+fn channel_state(words: &[&str]) -> Option<Channel> {
+    let ["capacity", capacity, "oldest", oldest, "held", held, "peak", peak, state] = *words else {
+        return None;
+    };
+    Some(Channel {
+        capacity: number(capacity, u16::MAX)?,
+        oldest: number(oldest, u16::MAX)?,
+        held: number(held, u16::MAX)?,
+        peak: number(peak, u16::MAX)?,
+        closed: closed(state)?,
+    })
 }
 
 /// A number of decimal digits alone, up to a limit.
@@ -229,12 +234,9 @@ impl fmt::Display for Edit {
                 write!(to, "process {number} position {position} {condition} moves {moves}")
             }
             Edit::Register(register, value) => write!(to, "register {register} {value}"),
-            Edit::Channel(channel, Channel { capacity, oldest, held, closed }) => {
-                let state = state_word(*closed);
-                write!(
-                    to,
-                    "channel {channel} capacity {capacity} oldest {oldest} held {held} {state}"
-                )
+            Edit::Channel(channel, Channel { capacity, oldest, held, peak, closed }) => {
+                write!(to, "channel {channel} capacity {capacity} oldest {oldest} held {held}")?;
+                write!(to, " peak {peak} {}", state_word(*closed))
             }
             Edit::Cell(cell, value) => write!(to, "cell {cell} {value}"),
             Edit::Accepted(count) => write!(to, "accepted {count}"),

@@ -522,7 +522,7 @@ impl<'a> Script<'a> {
 }
 
 /// Lines with a number just past its limit, or with a word that is not theirs.
-const BAD: [&str; 28] = [
+const BAD: [&str; 30] = [
     "pick 18446744073709551616",
     "feed 0 2147483648",
     "burst",
@@ -547,8 +547,10 @@ const BAD: [&str; 28] = [
     "make process 0 position 0 ended moves 0",
     "make process 16 position 0 live moves 0",
     "make register 128 0",
-    "make channel 0 capacity 1 oldest 0 held 0",
-    "make channel 32 capacity 1 oldest 0 held 0 open",
+    "make channel 0 capacity 1 oldest 0 held 0 open",
+    "make channel 0 capacity 1 oldest 0 held 0 peak 0",
+    "make channel 0 capacity 1 oldest 0 held 0 peak 65536 open",
+    "make channel 32 capacity 1 oldest 0 held 0 peak 0 open",
     "with cell 8193 0",
     "with accepted -1",
 ];

@@ -70,7 +70,17 @@ fn fill_in(
     while i < records {
         if channel_at(input, i) == c {
             let v = value_at(input, i);
-            let answer = lent_calls::feed_in(c, v, gone, capacity, oldest, held, peak, closed, cells);
+            let answer = lent_calls::feed_in(
+                c,
+                v,
+                gone,
+                capacity,
+                oldest,
+                held,
+                peak,
+                closed,
+                cells,
+            );
             if let FeedAnswer::Refused(_) = answer {
                 return i;
             }
@@ -136,7 +146,18 @@ pub fn feed_all(
             let from = next[c];
             if !idle(c, from, input, receiver, conditions, capacity, held, closed) {
                 let gone = lane_parts::ended_at(receiver[c], conditions);
-                next[c] = fill_in(c, from, input, gone, capacity, oldest, held, peak, closed, cells);
+                next[c] = fill_in(
+                    c,
+                    from,
+                    input,
+                    gone,
+                    capacity,
+                    oldest,
+                    held,
+                    peak,
+                    closed,
+                    cells,
+                );
             }
         }
         c = base::wide(after[c]);

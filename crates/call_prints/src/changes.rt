@@ -30,7 +30,7 @@ fn same_channel(a: Channel, b: Channel) -> bool {
     if a.closed != b.closed {
         return false;
     }
-    a.capacity == b.capacity && (a.oldest == b.oldest && a.held == b.held)
+    a.capacity == b.capacity && (a.oldest == b.oldest && (a.held == b.held && a.peak == b.peak))
 }
 
 // Registers, by 8 x process + register, or cells.

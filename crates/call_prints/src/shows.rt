@@ -146,6 +146,7 @@ pub fn print_channel(h: Channel) {
     print_number(words::CAPACITY, h.capacity as u64);
     print_number(words::OLDEST, h.oldest as u64);
     print_number(words::HELD, h.held as u64);
+    print_number(words::PEAK, h.peak as u64);
     if h.closed {
         print(words::CLOSED);
     } else {

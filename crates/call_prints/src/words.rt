@@ -56,6 +56,8 @@ pub const OLDEST: [u8; 16] = *b" oldest ........";
 
 pub const HELD: [u8; 16] = *b" held ..........";
 
+pub const PEAK: [u8; 16] = *b" peak ..........";
+
 pub const OPEN: [u8; 16] = *b" open...........";
 
 pub const CLOSED: [u8; 16] = *b" closed.........";

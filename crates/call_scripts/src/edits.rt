@@ -112,10 +112,12 @@ fn channel_of(words: &[u8], closed: bool) -> Edit {
         capacity: short(words, 3),
         oldest: short(words, 5),
         held: short(words, 7),
+        peak: short(words, 9),
         closed,
     };
     if within(words, 1, 31)
-        && (within(words, 3, 65535) && (within(words, 5, 65535) && within(words, 7, 65535)))
+        && (within(words, 3, 65535)
+            && (within(words, 5, 65535) && (within(words, 7, 65535) && within(words, 9, 65535))))
     {
         return Edit::Channel(size(words, 1), channel);
     }
@@ -143,10 +145,10 @@ fn state_of(words: &[u8]) -> Edit {
     if fits(words, b"register N V") {
         return register_of(words);
     }
-    if fits(words, b"channel N capacity N oldest N held N open") {
+    if fits(words, b"channel N capacity N oldest N held N peak N open") {
         return channel_of(words, false);
     }
-    if fits(words, b"channel N capacity N oldest N held N closed") {
+    if fits(words, b"channel N capacity N oldest N held N peak N closed") {
         return channel_of(words, true);
     }
     if fits(words, b"cell N V") {

@@ -246,7 +246,14 @@ fn rounds(lane: Lane, cells: &mut [i32], most: u64) -> DriveResult
     let mut held = [0u16; 32];
     let mut peak = [0u16; 32];
     let mut closed = [false; 32];
-    lane_parts::part_channels(records, &mut capacity, &mut oldest, &mut held, &mut peak, &mut closed);
+    lane_parts::part_channels(
+        records,
+        &mut capacity,
+        &mut oldest,
+        &mut held,
+        &mut peak,
+        &mut closed,
+    );
     let r = rounds_in(
         most,
         lane.accepted,

@@ -61,6 +61,7 @@ fn ended(lane: Lane) -> Lane {
         capacity: 1,
         oldest: 0,
         held: 0,
+        peak: 0,
         closed: true,
     }; 32];
     l.processes = processes;
@@ -92,6 +93,7 @@ fn burst_lane(oldest: u8) -> Lane {
         capacity: 256,
         oldest: oldest as u16,
         held: 0,
+        peak: 0,
         closed: false,
     };
     lane

@@ -64,8 +64,25 @@ fn feed_there(lane: Lane, cells: &mut [i32], c: usize, v: i32) -> Fed
     let mut peak = [0u16; 32];
     let mut closed = [false; 32];
     let channels = lane.channels;
-    lane_parts::part_channels(channels, &mut capacity, &mut oldest, &mut held, &mut peak, &mut closed);
-    let answer = lent_calls::feed_in(c, v, gone, &capacity, &oldest, &mut held, &mut peak, &closed, cells);
+    lane_parts::part_channels(
+        channels,
+        &mut capacity,
+        &mut oldest,
+        &mut held,
+        &mut peak,
+        &mut closed,
+    );
+    let answer = lent_calls::feed_in(
+        c,
+        v,
+        gone,
+        &capacity,
+        &oldest,
+        &mut held,
+        &mut peak,
+        &closed,
+        cells,
+    );
     let joined = lane_parts::join_channels(&capacity, &oldest, &held, &peak, &closed);
     let mut l = lane;
     l.channels = joined;
@@ -97,7 +114,14 @@ fn close_there(lane: Lane, c: usize) -> Fed
     let mut peak = [0u16; 32];
     let mut closed = [false; 32];
     let channels = lane.channels;
-    lane_parts::part_channels(channels, &mut capacity, &mut oldest, &mut held, &mut peak, &mut closed);
+    lane_parts::part_channels(
+        channels,
+        &mut capacity,
+        &mut oldest,
+        &mut held,
+        &mut peak,
+        &mut closed,
+    );
     let answer = lent_calls::close_in(c, &capacity, &oldest, &held, &peak, &mut closed);
     let joined = lane_parts::join_channels(&capacity, &oldest, &held, &peak, &closed);
     let mut l = lane;
@@ -131,7 +155,14 @@ fn take_there(lane: Lane, cells: &[i32], c: usize) -> Taken
     let mut peak = [0u16; 32];
     let mut closed = [false; 32];
     let channels = lane.channels;
-    lane_parts::part_channels(channels, &mut capacity, &mut oldest, &mut held, &mut peak, &mut closed);
+    lane_parts::part_channels(
+        channels,
+        &mut capacity,
+        &mut oldest,
+        &mut held,
+        &mut peak,
+        &mut closed,
+    );
     let answer = lent_calls::take_in(c, &capacity, &mut oldest, &mut held, &peak, &closed, cells);
     let joined = lane_parts::join_channels(&capacity, &oldest, &held, &peak, &closed);
     let mut l = lane;

@@ -256,7 +256,14 @@ pub fn pick(lane: Lane, cells: &mut [i32], p: usize) -> Turn
     let processes = lane.processes;
     lane_parts::part_processes(processes, &mut positions, &mut conditions, &mut moves);
     let records = lane.channels;
-    lane_parts::part_channels(records, &mut capacity, &mut oldest, &mut held, &mut peak, &mut closed);
+    lane_parts::part_channels(
+        records,
+        &mut capacity,
+        &mut oldest,
+        &mut held,
+        &mut peak,
+        &mut closed,
+    );
     let one = [p as u8];
     let r = rounds_in(
         &one,

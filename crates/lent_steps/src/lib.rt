@@ -140,7 +140,18 @@ pub fn step(
         11 => receive(i, file, base, capacity, oldest, held, peak, closed, cells),
         12 => {
             let gone = ended_at(receiver[channel_of(i)], conditions);
-            send(i, file, base, capacity, oldest, held, peak, closed, gone, cells)
+            send(
+                i,
+                file,
+                base,
+                capacity,
+                oldest,
+                held,
+                peak,
+                closed,
+                gone,
+                cells,
+            )
         }
         13 => close(i, capacity, oldest, held, peak, closed),
         _ => Did::Fault,

@@ -134,7 +134,14 @@ pub fn relieve(lane: Lane, ring: &mut [u8]) -> Relieved
     let mut held = [0u16; 32];
     let mut peak = [0u16; 32];
     let mut closed = [false; 32];
-    lane_parts::part_channels(channels, &mut capacity, &mut oldest, &mut held, &mut peak, &mut closed);
+    lane_parts::part_channels(
+        channels,
+        &mut capacity,
+        &mut oldest,
+        &mut held,
+        &mut peak,
+        &mut closed,
+    );
     let answer = relieve_in(
         lane.network.processes,
         &code,

@@ -143,7 +143,14 @@ fn bytes(lane: Lane, cells: &mut [i32], picks: &[u8]) -> RunResult
     let mut held = [0u16; 32];
     let mut peak = [0u16; 32];
     let mut closed = [false; 32];
-    lane_parts::part_channels(records, &mut capacity, &mut oldest, &mut held, &mut peak, &mut closed);
+    lane_parts::part_channels(
+        records,
+        &mut capacity,
+        &mut oldest,
+        &mut held,
+        &mut peak,
+        &mut closed,
+    );
     let r = bytes_in(
         picks,
         lane.accepted,
