@@ -33,7 +33,7 @@ pass₁ : passes (relay 1) ≡ true
 unfolding tests
 pass₁ = passes-by (relay 1) (passesOn ++ addsUp) 4028 refl (omega arith) refl
 
-pass₂ : passes (relay 2) ≡ true
+pub pass₂ : passes (relay 2) ≡ true
 unfolding tests
 pass₂ = passes-by (relay 2) (passesOn ++ addsUp) 4028 refl (omega arith) refl
 
@@ -41,7 +41,7 @@ read₁ : ReadAs (fileOf (relay 1)) (relay 1)
 unfolding files
 read₁ = read-by (relay 1) (relay-shaped 1) pass₁ refl
 
-read₂ : ReadAs (fileOf (relay 2)) (relay 2)
+pub read₂ : ReadAs (fileOf (relay 2)) (relay 2)
 unfolding files
 read₂ = read-by (relay 2) (relay-shaped 2) pass₂ refl
 
@@ -55,10 +55,10 @@ both P g h (suc zero) l = h
 both P g h (suc (suc p)) l = absurd (omega arith)
 
 -- what is left to compute, on channel 0 and of processes 0 and 1
-relay-fair : (k : ℕ) (ks : List Call) (w : World) (f : Fit w) → FairOn ks w f (relay k) input 0 → Fair (relay k) input (calls ks) w
+pub relay-fair : (k : ℕ) (ks : List Call) (w : World) (f : Fit w) → FairOn ks w f (relay k) input 0 → Fair (relay k) input (calls ks) w
 relay-fair k ks w f h = fair-by ks w f (relay k) input (only-first (relay k) refl (FairOn ks w f (relay k) input) h)
 
-relay-rest : (k : ℕ) (ks : List Call) (w : World) (f : Fit w) → WholeOn ks w f (relay k) input 0 → Rests ks w f (relay k) input 0
+pub relay-rest : (k : ℕ) (ks : List Call) (w : World) (f : Fit w) → WholeOn ks w f (relay k) input 0 → Rests ks w f (relay k) input 0
     → Rests ks w f (relay k) input 1 → AtRest (relay k) input (calls ks) w
 relay-rest k ks w f h q r =
     rest-by ks w f (relay k) input (only-first (relay k) refl (WholeOn ks w f (relay k) input) h) (both (Rests ks w f (relay k) input) q r)
@@ -137,7 +137,7 @@ unfolding playing
 second₁ = ap (λ (w : World). processOf (w .lane) 1) (left-is calls₁ w₁ fit₁)
 
 -- ---- capacities 2, other cells: process 1 is picked before 0, each time
-abbrev entries₂ : List Entry
+abbrev pub entries₂ : List Entry
 entries₂ =
     pick 1 ⇒ told (waitingEmpty 1)
     ∷ feed 0 (pos 5) ⇒ told accepted
@@ -167,24 +167,24 @@ entries₂ =
     ∷ take 2 ⇒ told (value (pos 5))
     ∷ []
 
-abbrev calls₂ : List Call
+abbrev pub calls₂ : List Call
 calls₂ = callsOf entries₂
 
-abbrev w₂ : World
+abbrev pub w₂ : World
 w₂ = board (relay 2) (filled (pos 7))
 
-fit₂ : Fit w₂
+pub fit₂ : Fit w₂
 fit₂ = fit (relay 2) (filled (pos 7)) pass₂ (many-filled (pos 7))
 
 answered₂ : replies calls₂ w₂ ≡ repliesOf entries₂
 unfolding playing
 answered₂ = replies-are calls₂ w₂ fit₂
 
-fair₂ : Fair (relay 2) input (calls calls₂) w₂
+pub fair₂ : Fair (relay 2) input (calls calls₂) w₂
 unfolding playing
 fair₂ = relay-fair 2 calls₂ w₂ fit₂ (record { feeds = record { rest = []; longer = refl }; last = refl; whole = λ e. refl })
 
-rest₂ : AtRest (relay 2) input (calls calls₂) w₂
+pub rest₂ : AtRest (relay 2) input (calls calls₂) w₂
 unfolding playing
 rest₂ = relay-rest 2 calls₂ w₂ fit₂ (refl, refl) refl refl
 

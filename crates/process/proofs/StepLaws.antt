@@ -1,11 +1,12 @@
 -- What a step does, whatever the instruction: it waits and changes nothing, or the process goes on, or it ends. From this: the place stays
--- among the instructions, the channel stays sound, the registers stay eight, the condition changes only at an end.
+-- among the instructions, the channel stays sound, its highest filling rises with what it holds, the registers stay eight, the condition changes only at an
+-- end.
 -- Assumes nothing.
 use mathlib.Core.Path.{_≡_, refl, sym, ap, subst, _∙_}
 use mathlib.Core.Bool.{Bool, true, false, cond, not, _&&_, _||_}
 use mathlib.Core.List.{List}
 use mathlib.Core.Logic.{_⊎_, inl, inr}
-use Prim.Native.Nat.{ℕ, _+_, _≤_, _<_}
+use Prim.Native.Nat.{ℕ, _+_, _≤_, _<_, max}
 use native.Mathlib.Omega.{arith}
 use lib.Dec.{T, eqb, lit<, lit≤}
 use lib.ListN.{length, length-set}
@@ -51,9 +52,10 @@ pub record Kept (h g : Channel) : Type 0 where
   pub oldest : h .oldest < 256 → g .oldest < 256
   pub held : h .held ≤ h .capacity → g .held ≤ g .capacity
   pub closed : h .closed ≡ true → g .closed ≡ true
+  pub peak : h .held ≤ h .peak → g .peak ≡ max (h .peak) (g .held)
 
 kept-same : (h : Channel) → Kept h h
-kept-same h = record { capacity = refl; oldest = λ l. l; held = λ l. l; closed = λ e. e }
+kept-same h = record { capacity = refl; oldest = λ l. l; held = λ l. l; closed = λ e. e; peak = λ l. omega arith }
 
 kept-put : (h : Channel) → eqb (h .held) (h .capacity) ≡ false → Kept h (putOne h)
 kept-put h n =
@@ -62,13 +64,14 @@ kept-put h n =
       oldest = λ l. l;
       held = λ l. let e : h .held ≡ h .capacity → ⊥ = eqb-false _ _ n in omega arith;
       closed = λ e. e;
+      peak = λ l. refl;
     }
 
 kept-get : (h : Channel) → Kept h (getOne h)
-kept-get h = record { capacity = refl; oldest = λ l. omega arith; held = λ l. omega arith; closed = λ e. e }
+kept-get h = record { capacity = refl; oldest = λ l. omega arith; held = λ l. omega arith; closed = λ e. e; peak = λ l. omega arith }
 
 kept-close : (h : Channel) → Kept h (closeOne h)
-kept-close h = record { capacity = refl; oldest = λ l. l; held = λ l. l; closed = λ e. refl }
+kept-close h = record { capacity = refl; oldest = λ l. l; held = λ l. l; closed = λ e. refl; peak = λ l. omega arith }
 
 -- ---- G holds of each process that may go on, E of each that may end
 module _ (G E : Process → Type 0) where
@@ -222,6 +225,11 @@ module _ {q : Process} {h : Channel} where
   channel-kept (went x g o w n y k) = k
   channel-kept (ended x y) = kept-same h
 
+  channel-ended : {s : Stepped} → Result (Goes q) (Ends q) q h s → isHalted (s .outcome) ≡ true → s .channel ≡ h
+  channel-ended (still o w n) e = clash (sym e ∙ n)
+  channel-ended (went x g o w n y k) e = clash (sym e ∙ n)
+  channel-ended (ended x y) e = refl
+
   registers-kept : {s : Stepped} → Result (Goes q) (Ends q) q h s → length (s .process .registers) ≡ length (q .registers)
   registers-kept (still o w n) = refl
   registers-kept (went x g o w n y k) = y .registers
@@ -253,6 +261,10 @@ module _ (i : Instruction) (q : Process) (h : Channel) (m : ℤ) (gone : Bool) w
 
   pub step-channel : Kept h (stepOf i q h m gone .channel)
   step-channel = channel-kept (step-result i q h m gone)
+
+  -- at an end it is as it was, until the channels of the process are dropped
+  pub step-halted : isHalted (stepOf i q h m gone .outcome) ≡ true → stepOf i q h m gone .channel ≡ h
+  step-halted = channel-ended (step-result i q h m gone)
 
   pub step-registers : length (stepOf i q h m gone .process .registers) ≡ length (q .registers)
   step-registers = registers-kept (step-result i q h m gone)

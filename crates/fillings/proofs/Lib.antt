@@ -1,0 +1,3 @@
+pub mod Rises
+pub mod Whole
+pub mod Witness
