@@ -80,7 +80,7 @@ fn rest_zero(
 }
 
 // Whether a lane, any value of the record, is sound. The network is tested first, so that each number read is in place. Where all places are in use none
-// has to be zero.
+// has to be zero. Each test has records of its own out of the lane: those that serve two tests would be copied once more for each.
 pub fn sound(lane: Lane) -> bool
     ensures { λ r. ⌜ r ≡ soundOf lane ⌝ }
 {
@@ -90,18 +90,19 @@ pub fn sound(lane: Lane) -> bool
     let used = lane.network.processes;
     let inside = lane.network.channels;
     let count = lane.network.count;
-    let processes = lane.processes;
-    let channels = lane.channels;
     let mut marks = [0u16; 256];
+    let processes = lane.processes;
     if !sound_parts::standings(&count, processes, used, &mut marks) {
         return false;
     }
+    let channels = lane.channels;
     if !sound_parts::limits(channels, inside) {
         return false;
     }
     let sender = lane.network.sender;
     let receiver = lane.network.receiver;
-    if !sound_parts::ends(&sender, &receiver, &marks, channels, inside) {
+    let connected = lane.channels;
+    if !sound_parts::ends(&sender, &receiver, &marks, connected, inside) {
         return false;
     }
     if used == 16 {
@@ -110,5 +111,7 @@ pub fn sound(lane: Lane) -> bool
         }
     }
     let registers = lane.registers;
-    rest_zero(registers, processes, channels, used, inside)
+    let standings = lane.processes;
+    let records = lane.channels;
+    rest_zero(registers, standings, records, used, inside)
 }

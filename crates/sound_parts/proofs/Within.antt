@@ -1,8 +1,7 @@
--- What the numbers of a channel leave in the sums that are laid over one another: one sum is clean of its flags exactly where the capacity is 1 to 256 and
--- the oldest at most 255, two others where no more is held than at the most, and where that is no more than the capacity.
+-- What the numbers of a channel leave in the sums that are laid over one another: one is clean of its flags exactly where the capacity is 1 to 256, one
+-- where the oldest is at most 255, two others where no more is held than at the most, and where that is no more than the capacity.
 -- Assumes nothing.
 use mathlib.Core.Path.{_≡_, refl, ap, _∙_}
-use mathlib.Core.Bool.{_&&_}
 use Prim.Native.Nat.{ℕ, zero, suc, _+_, _-_, _*_, _/_, _%_, _<_}
 use native.Mathlib.Nat.{mod-eq-of-lt}
 use native.Mathlib.Omega.{arith}
@@ -12,7 +11,6 @@ use lib.Dec.{leb}
 use Rattle.base.specs.Tests.{between}
 use Rattle.base.proofs.Conjunction.{iff, between-true, true-between}
 use Rattle.flags.specs.Clean.{clean}
-use Rattle.flags.proofs.Digits.{split-off}
 
 -- a number of two bytes, whatever stands above it, is clean of the upper one where it is at most 255
 upper : (high d : ℕ) → d < 65536 → clean 0xFF00 (65536 * high + d) ≡ leb d 255
@@ -27,17 +25,13 @@ upper high d h =
 from-one : (k : ℕ) → leb k 255 ≡ between 1 (suc k) 256
 from-one k = iff _ _ (λ t. true-between 1 (suc k) 256 (omega arith) (omega (arith, leb-true))) (λ t. le-leb k 255 (omega (arith, between-true 1 (suc k) 256 t .1)))
 
--- the capacity less 1 stands in the lower number, which has all its digits where the capacity is 0; the oldest in the upper one
-pub places-clean : (capacity oldest : ℕ) → capacity < 65536 → oldest < 65536
-    → clean 0xFF00FF00 (capacity + 0x10000 * oldest + 0xFFFFFFFF) ≡ (between 1 capacity 256 && leb oldest 255)
-places-clean zero oldest h l =
-    let e : 0 + 0x10000 * oldest + 0xFFFFFFFF ≡ (oldest + 65535) * 65536 + 65535 = omega arith in
-    ap (clean 0xFF00FF00) e ∙ split-off 16 (oldest + 65535) 65535 0xFF00 0xFF00 _ _ (omega arith) (omega arith) (omega arith) refl refl
-places-clean (suc k) oldest h l =
-    let e : suc k + 0x10000 * oldest + 0xFFFFFFFF ≡ (65536 * 1 + oldest) * 65536 + (65536 * 0 + k) = omega arith in
-    ap (clean 0xFF00FF00) e
-    ∙ split-off 16 (65536 * 1 + oldest) (65536 * 0 + k) 0xFF00 0xFF00 _ _ (omega arith) (omega arith) (omega arith)
-    (upper 0 k (omega arith) ∙ from-one k) (upper 1 oldest l)
+-- the capacity less 1, below the digit that is carried; where it is 0, all digits
+pub room-clean : (capacity : ℕ) → capacity < 65536 → clean 0xFF00 (capacity + 0xFFFF) ≡ between 1 capacity 256
+room-clean zero h = refl
+room-clean (suc k) h = let e : suc k + 0xFFFF ≡ 65536 * 1 + k = omega arith in ap (clean 0xFF00) e ∙ upper 1 k (omega arith) ∙ from-one k
+
+pub oldest-clean : (oldest : ℕ) → oldest < 65536 → clean 0xFF00 oldest ≡ leb oldest 255
+oldest-clean oldest h = let e : oldest ≡ 65536 * 0 + oldest = omega arith in ap (clean 0xFF00) e ∙ upper 0 oldest h
 
 -- no number a above b
 pub above-clean : (a b : ℕ) → a < 65536 → b < 65536 → clean 0x10000 (a + 0xFFFF - b) ≡ leb a b

@@ -107,25 +107,34 @@ pub fn standings(
     wrong == 0
 }
 
+// A number of two bytes as one of four; that it is below 65536 is not known of one that a loop has made.
+fn wide(x: u16) -> u32
+    ensures { λ r. ⌜ r ≡ x ⌝ }
+{
+    x as u32
+}
+
 // Whether channels in use are within their limits, whatever their ends. The numbers of a channel are laid over those of the others: a capacity of 0 or above
-// 256 and an oldest above 255 leave a digit from 8 to 15 or from 24 to 31 of the one sum; more held than at the most, and that above the capacity, digit 16
-// of the two others.
+// 256 leaves a digit from 8 to 15 of its sum, and so does an oldest above 255 as it stands; more held than at the most, and that above the capacity, leave
+// digit 16 of theirs.
 pub fn limits(channels: [Channel; 32], used: usize) -> bool
     requires { ⌜ used ≤ 32 ⌝ }
     ensures { λ r. ⌜ ((lane : Lane) → lane .channels ≡ channels → r ≡ isGood (firstBad (λ c. channelSound false false (channelOf lane c)) 0 used)) ⌝ }
 {
-    let mut places: u64 = 0;
-    let mut fillings: u64 = 0;
+    let mut rooms: u32 = 0;
+    let mut oldests: u16 = 0;
+    let mut fillings: u32 = 0;
     let mut c: usize = 0;
     while c < used {
         let h = channels[c];
-        let capacity = h.capacity as u64;
-        let peak = h.peak as u64;
-        places = places | (capacity + 0x10000 * (h.oldest as u64) + 0xFFFFFFFF);
-        fillings = fillings | (((h.held as u64) + 0xFFFF - peak) | (peak + 0xFFFF - capacity));
+        let capacity = h.capacity as u32;
+        let peak = h.peak as u32;
+        rooms = rooms | (capacity + 0xFFFF);
+        oldests = oldests | h.oldest;
+        fillings = fillings | (((h.held as u32) + 0xFFFF - peak) | (peak + 0xFFFF - capacity));
         c += 1;
     }
-    places & 0xFF00FF00 == 0 && fillings & 0x10000 == 0
+    (rooms | wide(oldests)) & 0xFF00 == 0 && fillings & 0x10000 == 0
 }
 
 // The number of an end; that it is below 256 is not known of an element that is read through a reference.

@@ -26,16 +26,16 @@ abbrev lane-passes : (c : tie.Else1) → Lane
 lane-passes c = c .before .before .args .lane
 
 abbrev else1 : (c : tie.After-marks) → tie.Else1
-else1 c = c .before .before .before .before .before
+else1 c = c .before .before .before .before
 
 abbrev lane-placed : (c : tie.After-standings) → Lane
 lane-placed c = lane-passes (else1 (c .before))
 
 abbrev lane-within : (c : tie.After-limits) → Lane
-lane-within c = lane-placed (c .before .before)
+lane-within c = lane-placed (c .before .before .before)
 
 abbrev within-of : (c : tie.After-ends) → tie.After-limits
-within-of c = c .before .before .before .before .before .before .before
+within-of c = c .before .before .before .before .before .before .before .before
 
 abbrev lane-closed : (c : tie.After-ends) → Lane
 lane-closed c = lane-within (within-of c)
@@ -67,33 +67,32 @@ so-placed : (c : tie.Else2) → positions (lane-placed (c .before)) ≡ true
 so-placed c = told-positions (c .before) ∙ not-false _ (c .if2 .left)
 
 limits-requires : tie.Need-limits-requires
-limits-requires c κs = bounds (else1 (c .before .before)) .channels-high
+limits-requires c κs = bounds (else1 (c .before .before .before)) .channels-high
 
 told-limits : (c : tie.After-limits) → limits (lane-within c) ≡ c .limits .result
 told-limits c = sym (c .limits .ensures (lane-within c) refl)
 
 returns-3 : tie.Need-returns-3
 returns-3 c =
-    let e = c .before .before in
+    let e = c .before .before .before in
     sym (asked (else1 (e .before .before)) ∙ rw (so-placed e, told-limits (c .before) ∙ not-true _ (c .if3 .taken)))
 
 so-within : (c : tie.Else3) → limits (lane-within (c .before)) ≡ true
 so-within c = told-limits (c .before) ∙ not-false _ (c .if3 .left)
 
 ends-requires : tie.Need-ends-requires
-ends-requires c κs = bounds (else1 (c .before .before .before .before .before .before .before .before .before)) .channels-high
+ends-requires c κs = bounds (else1 (c .before .before .before .before .before .before .before .before .before .before .before)) .channels-high
 
 told-ends : (c : tie.After-ends) → ends (lane-closed c) ≡ c .ends .result
 told-ends c =
     let l = lane-closed c in
-    sym (c .ends .ensures l (endedIn l) refl refl refl (within-of c .before .before .standings .ensures l refl refl .1))
+    sym (c .ends .ensures l (endedIn l) refl refl refl (within-of c .before .before .before .standings .ensures l refl refl .1))
 
 -- where the test of the ends says so, that of what is not in use is left
 after-ends : (c : tie.After-ends) → let l = lane-closed c in soundOf l ≡ (ends l && rest l)
 after-ends c =
-    let w = within-of c in
-    let e = w .before in
-    asked (else1 (e .before .before)) ∙ rw (so-placed e, so-within (c .before .before .before .before .before .before))
+    let e = within-of c .before .before in
+    asked (else1 (e .before .before)) ∙ rw (so-placed e, so-within (c .before .before .before .before .before .before .before))
 
 returns-4 : tie.Need-returns-4
 returns-4 c = sym (after-ends (c .before) ∙ rw (told-ends (c .before) ∙ not-true _ (c .if4 .taken)))
@@ -107,11 +106,11 @@ returns-5 c =
     sym (left e ∙ all-used (lane-closed (e .before)) (c .before .if5 .taken) (c .if6 .taken))
 
 rest-zero-requires : tie.Need-rest-zero-requires
-rest-zero-requires c κs = bounds (else1 (within-of (c .before .before .before) .before .before .before)) .processes-high
+rest-zero-requires c κs = bounds (else1 (within-of (c .before .before .before .before .before) .before .before .before .before)) .processes-high
 
 returns-6 : tie.Need-returns-6
 returns-6 c =
-    let e = c .before .before .before in
+    let e = c .before .before .before .before .before in
     c .rest-zero .ensures (lane-closed (e .before)) refl refl refl refl refl ∙ sym (left e)
 
 pub sound-spec : {M : Type 1} → statement M

@@ -1,4 +1,4 @@
--- `sound_parts::limits` meets its contract. The loop's invariant: each of the two numbers has the answer of the channels passed.
+-- `sound_parts::limits` meets its contract. The loop's invariant: each of the three numbers has the answer of the channels passed.
 -- Assumes nothing.
 use mathlib.Core.Path.{_≡_, refl, sym, ap₂, _∙_}
 use mathlib.Core.Bool.{Bool, true, false, _&&_, and-false, false≢true}
@@ -17,28 +17,34 @@ use Rattle.process.specs.Channels.{noChannel}
 use Rattle.lane.specs.Sound.{channelSound}
 use Rattle.flags.specs.Clean.{clean}
 use Rattle.flags.proofs.Clean.{clean-or, Tells, laid, one}
-use Rattle.sound_parts.proofs.Within.{places-clean, above-clean}
+use Rattle.sound_parts.proofs.Within.{room-clean, oldest-clean, above-clean}
 use Rattle.sound_parts.proofs.Pairs.{two-kinds}
 use Rattle.sound_parts.proofs.limits.Statement.{statement}
 use Rattle.sound_parts.proofs.limits.Tie as tie
 
--- the two tests of a channel, by the array that was handed over
+-- the three tests of a channel, by the array that was handed over, and the first two together
+abbrev roomy : List Channel → ℕ → Bool
+roomy channels c = let h = getD channels c noChannel in between 1 (h .capacity) 256
+
+abbrev early : List Channel → ℕ → Bool
+early channels c = let h = getD channels c noChannel in leb (h .oldest) 255
+
 abbrev placed : List Channel → ℕ → Bool
-placed channels c = let h = getD channels c noChannel in between 1 (h .capacity) 256 && leb (h .oldest) 255
+placed channels c = roomy channels c && early channels c
 
 abbrev filled : List Channel → ℕ → Bool
 filled channels c = let h = getD channels c noChannel in leb (h .held) (h .peak) && leb (h .peak) (h .capacity)
 
 abbrev Inv-loop : tie.InvT-loop
-Inv-loop used channels places₀ fillings₀ c₀ places fillings c =
-    (c ≤ used) × Tells 0xFF00FF00 (placed channels) 0 c places × Tells 0x10000 (filled channels) 0 c fillings
+Inv-loop used channels rooms₀ oldests₀ fillings₀ c₀ rooms oldests fillings c =
+    (c ≤ used) × Tells 0xFF00 (roomy channels) 0 c rooms × Tells 0xFF00 (early channels) 0 c oldests × Tells 0x10000 (filled channels) 0 c fillings
 
 abbrev μ-loop : tie.MeasureT-loop
-μ-loop used channels places₀ fillings₀ c₀ places fillings c = used - c
+μ-loop used channels rooms₀ oldests₀ fillings₀ c₀ rooms oldests fillings c = used - c
 
 loop-holds : tie.Need-loop-holds Inv-loop μ-loop
 unfolding inTurn
-loop-holds c = (search needs, refl, refl)
+loop-holds c = (search needs, refl, refl, refl)
 
 mul-h : tie.Need-mul-h Inv-loop μ-loop
 mul-h c = search needs
@@ -52,17 +58,8 @@ cast-capacity c = search needs
 cast-peak : tie.Need-cast-peak Inv-loop μ-loop
 cast-peak c = search needs
 
-cast-places : tie.Need-cast-places Inv-loop μ-loop
-cast-places c = search needs
-
-mul-places : tie.Need-mul-places Inv-loop μ-loop
-mul-places c = search needs
-
-add-places : tie.Need-add-places Inv-loop μ-loop
-add-places c = search needs
-
-add-places-2 : tie.Need-add-places-2 Inv-loop μ-loop
-add-places-2 c = search needs
+add-rooms : tie.Need-add-rooms Inv-loop μ-loop
+add-rooms c = search needs
 
 cast-fillings : tie.Need-cast-fillings Inv-loop μ-loop
 cast-fillings c = search needs
@@ -95,9 +92,9 @@ loop-again c =
     let l = t .loop in
     let h = getD (t .before .args .t1) (l .c) noChannel in (
       search needs,
-      more 0xFF00FF00 (placed (t .before .args .t1)) (l .c) (l .places) (h .capacity + 0x10000 * h .oldest + 0xFFFFFFFF) (l .inv .1)
-          (places-clean (h .capacity) (h .oldest) (search needs) (search needs)),
-      more 0x10000 (filled (t .before .args .t1)) (l .c) (l .fillings) (bitOr (h .held + 0xFFFF - h .peak) (h .peak + 0xFFFF - h .capacity)) (l .inv .2)
+      more 0xFF00 (roomy (t .before .args .t1)) (l .c) (l .rooms) (h .capacity + 0xFFFF) (l .inv .1) (room-clean (h .capacity) (search needs)),
+      more 0xFF00 (early (t .before .args .t1)) (l .c) (l .oldests) (h .oldest) (l .inv .2) (oldest-clean (h .oldest) (search needs)),
+      more 0x10000 (filled (t .before .args .t1)) (l .c) (l .fillings) (bitOr (h .held + 0xFFFF - h .peak) (h .peak + 0xFFFF - h .capacity)) (l .inv .3)
           (clean-or 0x10000 (h .held + 0xFFFF - h .peak) (h .peak + 0xFFFF - h .capacity)
           ∙ ap₂ _&&_ (above-clean (h .held) (h .peak) (search needs) (search needs)) (above-clean (h .peak) (h .capacity) (search needs) (search needs))),
     )
@@ -119,24 +116,32 @@ two h =
     turned (leb (h .held) (h .capacity)) (between 1 (h .capacity) 256) (leb (h .oldest) 255) (leb (h .held) (h .peak)) (leb (h .peak) (h .capacity))
     (λ d e. le-leb (h .held) (h .capacity) (omega (arith, leb-true (h .held) (h .peak) d, leb-true (h .peak) (h .capacity) e)))
 
--- what the two numbers say of all channels in use, b the first of them
-told : (c : tie.After-loop Inv-loop μ-loop) (b : Bool) → clean 0xFF00FF00 (c .before .loop .places) ≡ b
+-- what the numbers say of all channels in use, b the first two together
+told : (c : tie.After-loop Inv-loop μ-loop) (b : Bool) → clean 0xFF00 (bitOr (c .before .loop .rooms) (c .before .loop .oldests)) ≡ b
     → (b && clean 0x10000 (c .before .loop .fillings))
     ≡ isGood (firstBad (λ k. channelSound false false (getD (c .before .before .args .t1) k noChannel)) 0 (c .before .before .args .used))
 told c b p =
     let l = c .before .loop in
     let a = c .before .before .args in
     let e : l .c ≡ a .used = omega arith in
-    ap₂ _&&_ (sym p ∙ l .inv .1) (l .inv .2)
+    let both = clean-or 0xFF00 (l .rooms) (l .oldests) ∙ ap₂ _&&_ (l .inv .1) (l .inv .2) ∙ sym (two-kinds _ (roomy (a .t1)) (early (a .t1)) 0 (l .c) (λ k h m. refl)) in
+    ap₂ _&&_ (sym p ∙ both) (l .inv .3)
     ∙ rw e (sym (two-kinds _ (placed (a .t1)) (filled (a .t1)) 0 (a .used) (λ k h m. two (getD (a .t1) k noChannel))))
 
+wide-requires : tie.Need-wide-requires Inv-loop μ-loop
+wide-requires c κs = search needs
+
 returns : tie.Need-returns Inv-loop μ-loop
-returns c lane e = rw e (told (c .before) true (eq-eqb _ 0 (c .if1 .taken)))
+returns c lane e =
+    let good : clean 0xFF00 (bitOr (c .before .before .before .loop .rooms) (c .before .before .before .loop .oldests)) ≡ true =
+    rw (c .before .wide .ensures) at (eq-eqb _ 0 (c .if1 .taken)) in
+    rw e (told (c .before .before) true good)
 
 returns-2 : tie.Need-returns-2 Inv-loop μ-loop
 returns-2 c lane e =
-    let bad : clean 0xFF00FF00 (c .before .before .loop .places) ≡ false = ne-eqb _ 0 (c .if1 .left) in
-    rw e (bad ∙ told (c .before) false bad)
+    let bad : clean 0xFF00 (bitOr (c .before .before .before .loop .rooms) (c .before .before .before .loop .oldests)) ≡ false =
+    rw (c .before .wide .ensures) at (ne-eqb _ 0 (c .if1 .left)) in
+    rw e (ne-eqb _ 0 (c .if1 .left) ∙ told (c .before .before) false bad)
 
 pub limits-spec : {M : Type 1} → statement M
 limits-spec =
@@ -149,10 +154,7 @@ limits-spec =
     array-copy-out-h
     cast-capacity
     cast-peak
-    cast-places
-    mul-places
-    add-places
-    add-places-2
+    add-rooms
     cast-fillings
     add-fillings
     sub-fillings
@@ -161,5 +163,6 @@ limits-spec =
     add-c
     loop-less
     loop-again
+    wide-requires
     returns
     returns-2)
