@@ -112,7 +112,7 @@ fn test_law(before: &State, channel: usize, values: &[i32], answer: Burst, after
         assert!(after == before);
         return;
     }
-    let Channel { capacity, oldest, held, closed } = before.lane.channels[channel];
+    let Channel { capacity, oldest, held, closed, .. } = before.lane.channels[channel];
     let receiver = before.lane.network.records[channel].receiver;
     let ended = before.lane.processes[usize::from(receiver)].condition != Condition::Live;
     let (fed, refused) = match values.len() {
@@ -129,7 +129,9 @@ fn test_law(before: &State, channel: usize, values: &[i32], answer: Burst, after
     let mut expected = before.clone();
     expected.lane.accepted = before.lane.accepted.saturating_add(fed as u64);
     if !ended {
-        expected.lane.channels[channel].held += fed as u16;
+        let state = &mut expected.lane.channels[channel];
+        state.held += fed as u16;
+        state.peak = state.peak.max(state.held);
         for (place, &value) in (usize::from(oldest + held)..).zip(&values[..fed]) {
             expected.cells[256 * channel + place % 256] = value;
         }
@@ -293,13 +295,14 @@ fn all_in_and_part_way_in() {
     let state = State::of(lane(5));
     let (answer, after) = tested(&state, 0, &[10, 20, 30]);
     assert_eq!(answer, all_in(3));
-    let open = Channel { capacity: 5, oldest: 0, held: 3, closed: false };
+    let open = Channel { capacity: 5, oldest: 0, held: 3, peak: 3, closed: false };
     assert_eq!((after.lane.channels[0], after.lane.accepted), (open, 3));
     assert_eq!(after.cells[..5], [10, 20, 30, -4, -5]);
     // Two more find room. The third is refused, and so nothing of it is seen.
     let (answer, after) = tested(&after, 0, &[40, 50, 60, 70]);
     assert_eq!(answer, stopped(2, Refusal::Full));
-    assert_eq!((after.lane.channels[0], after.lane.accepted), (Channel { held: 5, ..open }, 5));
+    let full = Channel { held: 5, peak: 5, ..open };
+    assert_eq!((after.lane.channels[0], after.lane.accepted), (full, 5));
     assert_eq!(after.cells[..7], [10, 20, 30, 40, 50, -6, -7]);
     // Into the full one nothing goes.
     let (answer, still) = tested(&after, 0, &[80]);
@@ -315,7 +318,7 @@ fn all_in_and_part_way_in() {
 fn just_as_many_as_find_room() {
     for held in [0, 1, 4] {
         let mut state = State::of(lane(5));
-        state.lane.channels[0].held = held;
+        hold(&mut state.lane, 0, held);
         let room = usize::from(5 - held);
         assert_eq!(tested(&state, 0, &numbers(room)).0, all_in(room));
         assert_eq!(tested(&state, 0, &numbers(room + 1)).0, stopped(room, Refusal::Full));
@@ -333,12 +336,12 @@ fn just_as_many_as_find_room() {
 #[test]
 fn places_are_counted_round() {
     let mut state = State::of(lane(6));
-    state.lane.channels[3] = Channel { capacity: 6, oldest: 252, held: 2, closed: false };
+    state.lane.channels[3] = Channel { capacity: 6, oldest: 252, held: 2, peak: 3, closed: false };
     let (answer, after) = tested(&state, 3, &[7, 8, 9, 10, 11]);
     assert_eq!(answer, stopped(4, Refusal::Full));
     assert_eq!(after.cells[1_020..1_025], [-1_021, -1_022, 7, 8, -1_025]);
     assert_eq!(after.cells[766..771], [-767, -768, 9, 10, -771]);
-    let channel = Channel { capacity: 6, oldest: 252, held: 6, closed: false };
+    let channel = Channel { capacity: 6, oldest: 252, held: 6, peak: 6, closed: false };
     assert_eq!(after.lane.channels[3], channel);
 }
 
@@ -367,7 +370,7 @@ fn all_goes_to_an_ended_receiver() {
 fn a_closed_channel_takes_nothing() {
     for held in [0, 1, 2] {
         let mut state = State::of(lane(2));
-        state.lane.channels[0] = Channel { capacity: 2, oldest: 9, held, closed: true };
+        state.lane.channels[0] = Channel { capacity: 2, oldest: 9, held, peak: 2, closed: true };
         for count in [1, 2, 3] {
             let (answer, after) = tested(&state, 0, &numbers(count));
             assert_eq!(answer, stopped(0, Refusal::Closed));
@@ -382,7 +385,7 @@ fn an_empty_burst_is_no_refusal() {
     for (held, closed) in [(0, false), (1, false), (2, false), (0, true), (1, true), (2, true)] {
         for accepted in [0, 5, u64::MAX] {
             let mut state = State::of(lane(2));
-            state.lane.channels[0] = Channel { capacity: 2, oldest: 9, held, closed };
+            state.lane.channels[0] = Channel { capacity: 2, oldest: 9, held, peak: 2, closed };
             state.lane.accepted = accepted;
             let (answer, after) = tested(&state, 0, &[]);
             assert_eq!(answer, all_in(0));
@@ -396,7 +399,7 @@ fn an_empty_burst_is_no_refusal() {
 fn the_tests_come_in_order() {
     let sound = State::of(lane(2));
     let mut unsound = sound.clone();
-    unsound.lane.channels[0].held = 3;
+    hold(&mut unsound.lane, 0, 3);
     let mut closed = sound.clone();
     for number in 0..3 {
         closed.lane.channels[number].closed = true;

@@ -1,5 +1,7 @@
 //! The edits that make a lane unsound: each breaks one part of the sentence
-//! "Sound means" and no other, and each part is broken.
+//! "Sound means", or of what request 6 adds to it, and no other, and each part is
+//! broken. Only held above the capacity cannot be so alone: then the peak is below
+//! what is held, or above the capacity too.
 
 use reference::clauses::clauses;
 use reference::lane::{Channel, Condition, Lane, Process, CELLS};
@@ -7,6 +9,9 @@ use reference::plans;
 use reference::random::Random;
 use reference::schedule::run;
 use std::collections::BTreeSet;
+
+/// The part that is never broken alone.
+const HELD: &str = "held at most capacity";
 
 /// The parts of the sentence that do not hold. The others are about processes
 /// and channels that a network which does not pass need not have.
@@ -23,7 +28,9 @@ fn broken(lane: &Lane) -> Vec<&'static str> {
         |number: usize| lane.processes[number].position < lane.network.slots[number].count;
     let parts = [
         ("positions are below the counts", (0..processes).all(position)),
-        ("held at most capacity", used().all(|(channel, _)| channel.held <= channel.capacity)),
+        (HELD, used().all(|(channel, _)| channel.held <= channel.capacity)),
+        ("peak at least held", used().all(|(channel, _)| channel.peak >= channel.held)),
+        ("peak at most capacity", used().all(|(channel, _)| channel.peak <= channel.capacity)),
         ("capacity 1 to 256", used().all(|(channel, _)| (1..=256).contains(&channel.capacity))),
         ("oldest at most 255", used().all(|(channel, _)| channel.oldest <= 255)),
         ("a sender that ended has closed", used().all(|(c, ends)| !ended(ends.sender) || c.closed)),
@@ -57,11 +64,13 @@ fn each_breaks_one_part() {
             let mut edited = lane.clone();
             edited.edit(edit);
             let broken = broken(&edited);
-            assert_eq!(broken.len(), 1, "{}: {edit}, {broken:?}", clause.name);
+            let count = if broken.contains(&HELD) { 2 } else { 1 };
+            assert_eq!(broken.len(), count, "{}: {edit}, {broken:?}", clause.name);
             met.insert(clause.name.as_str());
-            parts.extend(broken);
+            parts.insert(broken);
         }
     }
     assert_eq!(met, names);
-    assert_eq!(parts.len(), 8, "{parts:?}");
+    // Nine alone, and the one with each of two others.
+    assert_eq!(parts.len(), 9 + 2, "{parts:?}");
 }

@@ -87,7 +87,7 @@ fn relief_after_the_last_round_counts() {
     }
     // The same after a round without a move.
     let mut full = fresh(&[&[code(12, 0, 0, 0), CLOCK]], &[channel(0, 0, 1)]);
-    full.channels[0].held = 1;
+    hold(&mut full, 0, 1);
     assert_eq!(answer(&full, 1), spent(1, 1));
 }
 
@@ -97,7 +97,7 @@ fn refusal_14_after_a_move_goes_on() {
     let own = |clock: &[Instruction]| {
         let sender = [code(12, 0, 0, 0), CLOCK];
         let mut lane = fresh(&[clock, &sender], &[channel(1, 1, 256)]);
-        lane.channels[0].held = 256;
+        hold(&mut lane, 0, 256);
         lane
     };
     assert_eq!(answer(&own(&[CLOCK]), 2), spent(2, 0));
@@ -112,14 +112,15 @@ fn refusal_14_after_a_move_goes_on() {
     let one = [code(12, 0, 0, 0), CLOCK];
     let other = [code(12, 0, 1, 0), CLOCK];
     let mut pair = fresh(&[&[CLOCK], &one, &other], &[channel(1, 2, 256), channel(2, 1, 256)]);
-    pair.channels[0].held = 256;
-    pair.channels[1].held = 256;
+    hold(&mut pair, 0, 256);
+    hold(&mut pair, 1, 256);
     let (made, after) = driven(&pair, 30);
     assert_eq!(made, spent(30, 0));
     assert_eq!(moves(&after), [10, 0, 0]);
     // One of the two at 255: it grows, the sender sends once and jumps, and from
     // then on 14 is passed over.
-    pair.channels[1] = reference::lane::Channel { capacity: 255, held: 255, ..pair.channels[1] };
+    pair.channels[1].capacity = 255;
+    hold(&mut pair, 1, 255);
     let (made, after) = driven(&pair, 30);
     assert_eq!(made, spent(30, 1));
     assert_eq!(moves(&after), [10, 0, 2]);
@@ -171,8 +172,8 @@ fn one_relief_a_round() {
     // Round 4: 1 stops.
     let one = |channel| [code(12, 0, channel, 0), STOP];
     let mut lane = fresh(&[&one(0), &one(1)], &[channel(0, 0, 1), channel(1, 1, 1)]);
-    lane.channels[0].held = 1;
-    lane.channels[1].held = 1;
+    hold(&mut lane, 0, 1);
+    hold(&mut lane, 1, 1);
     for (picks, enlarged) in [(2, 1), (4, 2), (6, 2), (8, 2)] {
         assert_eq!(answer(&lane, picks), spent(picks, enlarged));
     }

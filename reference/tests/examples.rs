@@ -148,7 +148,7 @@ fn g_empty_and_closed_jumps() {
 fn h_send_needs_room() {
     let mut lane = fresh(&[&[code(12, 0, 0, 0), code(8, 0, 0, 0)]], &[to_outside(0, 2)]);
     lane.processes[0].registers[0] = 42;
-    lane.channels[0].held = 1;
+    hold(&mut lane, 0, 1);
     let mut cells = cells();
     assert_eq!(pick(&mut lane, &mut cells[..], 0), Ok(Answer::Moved));
     assert_eq!((lane.channels[0].held, cells[1]), (2, 42));
@@ -161,7 +161,7 @@ fn h_send_needs_room() {
 #[test]
 fn i_self_channel_grows() {
     let mut lane = fresh(&[&[code(12, 0, 0, 0), code(8, 0, 0, 0)]], &[channel(0, 0, 1)]);
-    lane.channels[0].held = 1;
+    hold(&mut lane, 0, 1);
     let mut ring = [99; 3];
     assert_eq!(relieve(&mut lane, &mut ring), Ok(Relieved { length: 1, channel: 0 }));
     assert_eq!(ring, [0, 99, 99]);
@@ -183,7 +183,7 @@ fn j_two_empty_waits() {
 fn k_full_and_empty_wait() {
     let programs: [&[Instruction]; 2] = [&[code(12, 0, 0, 0), STOP], &[code(11, 0, 1, 0), STOP]];
     let mut lane = fresh(&programs, &[channel(0, 1, 2), channel(0, 1, 1)]);
-    lane.channels[0].held = 2;
+    hold(&mut lane, 0, 2);
     let mut ring = [99; 2];
     assert_eq!(relieve(&mut lane, &mut ring), Ok(Relieved { length: 2, channel: 0 }));
     assert_eq!(ring, [0, 1]);
@@ -194,8 +194,8 @@ fn k_full_and_empty_wait() {
 fn l_lower_number_on_a_tie() {
     let programs: [&[Instruction]; 2] = [&[code(12, 0, 1, 0), STOP], &[code(12, 0, 0, 0), STOP]];
     let mut lane = fresh(&programs, &[channel(1, 0, 3), channel(0, 1, 3)]);
-    lane.channels[0].held = 3;
-    lane.channels[1].held = 3;
+    hold(&mut lane, 0, 3);
+    hold(&mut lane, 1, 3);
     let mut ring = [99; 2];
     assert_eq!(relieve(&mut lane, &mut ring), Ok(Relieved { length: 2, channel: 0 }));
     assert_eq!(ring, [0, 1]);

@@ -95,7 +95,7 @@ fn refusal_12_and_the_end() {
     let mut cells = cells();
     assert_eq!(refusal(&lane, |l, c| take(l, c, 1)), 12);
     lane.channels[1].closed = true;
-    lane.channels[1].held = 1;
+    hold(&mut lane, 1, 1);
     cells[256] = -5;
     assert_eq!(take(&mut lane, &cells[..], 1), Ok(Taken::Value(-5)));
     for _ in 0..3 {
@@ -111,10 +111,10 @@ fn refusals_13_14_and_15_of_relief() {
     assert_eq!(refusal(&lane, |l, _| relieve(l, &mut [])), 13);
     let programs: [&[Instruction]; 1] = [&[code(12, 0, 0, 0), code(8, 0, 0, 0)]];
     let mut ceiling = fresh(&programs, &[channel(0, 0, 256)]);
-    ceiling.channels[0].held = 256;
+    hold(&mut ceiling, 0, 256);
     assert_eq!(refusal(&ceiling, |l, _| relieve(l, &mut [])), 14);
     ceiling.channels[0].capacity = 255;
-    ceiling.channels[0].held = 255;
+    hold(&mut ceiling, 0, 255);
     assert_eq!(refusal(&ceiling, |l, _| relieve(l, &mut [])), 15);
     assert_eq!(relieve(&mut ceiling, &mut [0]), Ok(Relieved { length: 1, channel: 0 }));
     assert_eq!(ceiling.channels[0].capacity, 256);
@@ -124,8 +124,8 @@ fn refusals_13_14_and_15_of_relief() {
 fn relief_writes_nothing_where_the_buffer_is_short() {
     let programs: [&[Instruction]; 2] = [&[code(12, 0, 0, 0), STOP], &[code(12, 0, 1, 0), STOP]];
     let mut lane = fresh(&programs, &[channel(0, 1, 1), channel(1, 0, 1)]);
-    lane.channels[0].held = 1;
-    lane.channels[1].held = 1;
+    hold(&mut lane, 0, 1);
+    hold(&mut lane, 1, 1);
     let mut buffer = [77];
     assert_eq!(refusal(&lane, |l, _| relieve(l, &mut buffer)), 15);
     assert_eq!(buffer, [77]);
@@ -138,8 +138,8 @@ fn relief_passes_over_a_ring_at_its_ceiling() {
     let network =
         Network::of(&[program(0), vec![STOP], program(1)], &[channel(0, 0, 256), channel(2, 2, 5)]);
     let mut lane = Lane::fresh(network);
-    lane.channels[0].held = 256;
-    lane.channels[1].held = 5;
+    hold(&mut lane, 0, 256);
+    hold(&mut lane, 1, 5);
     let mut ring = [9; 1]; // just as long as the ring
     assert_eq!(relieve(&mut lane, &mut ring), Ok(Relieved { length: 1, channel: 1 }));
     assert_eq!(ring, [2]);
@@ -148,7 +148,7 @@ fn relief_passes_over_a_ring_at_its_ceiling() {
 #[test]
 fn refusal_15_cells_comes_first() {
     let mut unsound = lane();
-    unsound.channels[0].held = 2;
+    hold(&mut unsound, 0, 2);
     for lane in [&lane(), &unsound] {
         for cells in [0, 8_191, 8_193] {
             assert_eq!(refusal_with(lane, cells, |l, c| pick(l, c, 99)), 15);
@@ -162,13 +162,16 @@ fn refusal_15_cells_comes_first() {
 
 #[test]
 fn refusal_16_unsound() {
-    let edits: [fn(&mut Lane); 20] = [
+    let edits: [fn(&mut Lane); 25] = [
         |l| l.network.processes = 17,
         |l| l.network.records[1].capacity = 257,
         |l| l.network.code[3].op = 14,
         |l| l.processes[0].position = 4,
         |l| l.processes[1].position = u16::MAX,
-        |l| l.channels[0].held = 2,
+        |l| hold(l, 0, 2),
+        |l| (l.channels[0].held, l.channels[0].peak) = (2, 1),
+        |l| l.channels[0].held = 1,
+        |l| l.channels[0].peak = 2,
         |l| l.channels[1].capacity = 0,
         |l| l.channels[1].capacity = 257,
         |l| l.channels[1].oldest = 256,
@@ -176,7 +179,7 @@ fn refusal_16_unsound() {
         |l| {
             l.processes[0].condition = Condition::Faulted;
             l.channels[2].closed = true;
-            l.channels[0].held = 1;
+            hold(l, 0, 1);
         },
         |l| l.processes[2].registers[7] = 1,
         |l| l.processes[2].position = 1,
@@ -185,6 +188,8 @@ fn refusal_16_unsound() {
         |l| l.channels[4].capacity = 1,
         |l| l.channels[31].oldest = 1,
         |l| l.channels[31].held = 1,
+        |l| l.channels[4].peak = 1,
+        |l| l.channels[31].peak = 1,
         |l| l.channels[31].closed = true,
         |l| l.network.slots[2].first = 8,
     ];
@@ -204,17 +209,19 @@ fn refusal_16_unsound() {
 
 #[test]
 fn sound_lanes_that_look_odd() {
-    let edits: [fn(&mut Lane); 6] = [
+    let edits: [fn(&mut Lane); 8] = [
         |l| l.accepted = u64::MAX,
         |l| l.processes[0].moves = u64::MAX,
         |l| l.channels[0].oldest = 255,
         |l| l.channels[0].capacity = 256,
         |l| l.channels[0].closed = true,
+        |l| l.channels[0].peak = 1, // though nothing was ever fed
+        |l| hold(l, 0, 1),
         |l| {
             // Ended though not at a stop.
             l.processes[0].condition = Condition::Stopped;
             l.channels[2].closed = true;
-            l.channels[2].held = 1;
+            hold(l, 2, 1);
         },
     ];
     for edit in edits {
@@ -240,8 +247,9 @@ fn an_ending_process_closes_and_empties() {
     let programs: [&[Instruction]; 2] = [&[STOP], &[code(12, 0, 0, 0), code(8, 0, 0, 0)]];
     let channels = [channel(1, 0, 2), channel(0, 1, 2), channel(0, 0, 2), from_outside(0, 2)];
     let mut lane = fresh(&programs, &channels);
-    for held in &mut lane.channels[..4] {
-        (held.held, held.oldest) = (2, 7);
+    for number in 0..4 {
+        hold(&mut lane, number, 2);
+        lane.channels[number].oldest = 7;
     }
     let mut cells = cells();
     assert_eq!(pick(&mut lane, &mut cells[..], 0), Ok(Answer::Moved));
@@ -271,7 +279,7 @@ fn a_closed_channel_faults_full_or_not() {
             let program = [code(op, 0, 0, 0), STOP];
             let mut lane = fresh(&[&program], &[to_outside(0, 1)]);
             lane.channels[0].closed = true;
-            lane.channels[0].held = held;
+            hold(&mut lane, 0, held);
             assert_eq!(pick(&mut lane, &mut cells()[..], 0), Ok(Answer::Moved));
             assert_eq!(lane.processes[0].condition, Condition::Faulted);
             assert_eq!(lane.channels[0].held, held);

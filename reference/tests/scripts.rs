@@ -106,7 +106,7 @@ fn lines_of_bursts() {
 
 #[test]
 fn edits() {
-    let channel = Channel { capacity: 1, oldest: 65_535, held: 3, closed: true };
+    let channel = Channel { capacity: 1, oldest: 65_535, held: 3, peak: 65_535, closed: true };
     let record = Record { sender: 255, receiver: 0, capacity: 65_535 };
     let process =
         |position, condition, moves| Edit::Process { number: 15, position, condition, moves };
@@ -123,9 +123,9 @@ fn edits() {
             process(65_535, Condition::Faulted, u64::MAX),
         ),
         ("register 127 -1", Edit::Register(127, -1)),
-        ("channel 31 capacity 1 oldest 65535 held 3 closed", Edit::Channel(31, channel)),
+        ("channel 31 capacity 1 oldest 65535 held 3 peak 65535 closed", Edit::Channel(31, channel)),
         (
-            "channel 31 capacity 1 oldest 65535 held 3 open",
+            "channel 31 capacity 1 oldest 65535 held 3 peak 65535 open",
             Edit::Channel(31, Channel { closed: false, ..channel }),
         ),
         ("cell 8192 2147483647", Edit::Cell(8_192, i32::MAX)),
@@ -242,10 +242,11 @@ fn bad_lines() {
         "make process 0 position 0 live moves 18446744073709551616",
         "make register 128 0",
         "make register 0 2147483648",
-        "make channel 32 capacity 1 oldest 0 held 0 open",
-        "make channel 0 capacity 65536 oldest 0 held 0 open",
-        "make channel 0 capacity 1 oldest 65536 held 0 open",
-        "make channel 0 capacity 1 oldest 0 held 65536 open",
+        "make channel 32 capacity 1 oldest 0 held 0 peak 0 open",
+        "make channel 0 capacity 65536 oldest 0 held 0 peak 0 open",
+        "make channel 0 capacity 1 oldest 65536 held 0 peak 0 open",
+        "make channel 0 capacity 1 oldest 0 held 65536 peak 0 open",
+        "make channel 0 capacity 1 oldest 0 held 0 peak 65536 open",
         "make cell 8193 0",
         "make cell 0 -2147483649",
         "make accepted 18446744073709551616",
@@ -256,9 +257,14 @@ fn bad_lines() {
         "make record 0 sender outside receiver 0 capacity 1",
         "make process 0 position 0 stop moves 0",
         "make process 0 position 0 Live moves 0",
-        "make channel 0 capacity 1 oldest 0 held 0 shut",
-        "make channel 0 capacity 1 oldest 0 held 0",
-        "with channel 0 capacity 1 oldest 0 held 0 open 0",
+        "make channel 0 capacity 1 oldest 0 held 0 peak 0 shut",
+        "make channel 0 capacity 1 oldest 0 held 0 peak 0",
+        "make channel 0 capacity 1 oldest 0 held 0 open",
+        "make channel 0 capacity 1 oldest 0 peak 0 held 0 open",
+        "make channel 0 capacity 1 oldest 0 held 0 peak open",
+        "make channel 0 capacity 1 oldest 0 held 0 peak -1 open",
+        "make channel 0 capacity 1 oldest 0 held 0 open peak 0",
+        "with channel 0 capacity 1 oldest 0 held 0 peak 0 open 0",
     ] {
         assert_eq!(parse(line.as_bytes()), Line::Bad, "{line}");
     }
@@ -274,13 +280,13 @@ fn bad_lines_do_nothing() {
         "lane sample.bin|
          |
          # a note|
-         feed 0 5 |: accepted; channel 0 capacity 1 oldest 0 held 1 open; cell 0 is 5; accepted 1
+         feed 0 5 |: accepted; channel 0 capacity 1 oldest 0 held 1 peak 1 open; cell 0 is 5; accepted 1
          lane|: bad line
          room 9000|: bad line
          make accepted x|: bad line
          pick 1x|: bad line
-         show|; channel 0 capacity 1 oldest 0 held 1 open\
-; channel 1 capacity 1 oldest 0 held 0 open; cell 0 is 5; accepted 1",
+         show|; channel 0 capacity 1 oldest 0 held 1 peak 1 open\
+; channel 1 capacity 1 oldest 0 held 0 peak 0 open; cell 0 is 5; accepted 1",
     );
 }
 
@@ -317,31 +323,31 @@ fn picks_feeds_and_takes() {
     let folder = folder("sample", &[("sample.bin", bytes_of(&sample()))]);
     for lent in ["", "lent-"] {
         let lines = "lane sample.bin|
-            show|; channel 0 capacity 1 oldest 0 held 0 open; channel 1 capacity 1 oldest 0 held 0 open
+            show|; channel 0 capacity 1 oldest 0 held 0 peak 0 open; channel 1 capacity 1 oldest 0 held 0 peak 0 open
             PICK 0|: waiting-empty 0
             PICK 1|: refused 8
             FEED 2 5|: refused 8
             FEED 1 5|: refused 9
-            FEED 0 5|: accepted; channel 0 capacity 1 oldest 0 held 1 open; cell 0 is 5; accepted 1
+            FEED 0 5|: accepted; channel 0 capacity 1 oldest 0 held 1 peak 1 open; cell 0 is 5; accepted 1
             FEED 0 -3|: refused 10
-            PICK 0|: moved; register 0 is 5; process 0 position 1 live moves 1; channel 0 capacity 1 oldest 1 held 0 open
+            PICK 0|: moved; register 0 is 5; process 0 position 1 live moves 1; channel 0 capacity 1 oldest 1 held 0 peak 1 open
             PICK 0|: moved; register 0 is 10; process 0 position 2 live moves 2
             TAKE 1|: refused 12
             TAKE 0|: refused 9
             TAKE 2|: refused 8
-            PICK 0|: moved; process 0 position 3 live moves 3; channel 1 capacity 1 oldest 0 held 1 open; cell 256 is 10
-            FEED 0 -3|: accepted; channel 0 capacity 1 oldest 1 held 1 open; cell 1 is -3; accepted 2
-            close 0|: accepted; channel 0 capacity 1 oldest 1 held 1 closed; accepted 3
+            PICK 0|: moved; process 0 position 3 live moves 3; channel 1 capacity 1 oldest 0 held 1 peak 1 open; cell 256 is 10
+            FEED 0 -3|: accepted; channel 0 capacity 1 oldest 1 held 1 peak 1 open; cell 1 is -3; accepted 2
+            close 0|: accepted; channel 0 capacity 1 oldest 1 held 1 peak 1 closed; accepted 3
             close 0|: refused 11
             close 1|: refused 9
             close 2|: refused 8
             FEED 0 9|: refused 11
-            run 0 0 0 0|: moved 3 enlarged 0; register 0 is -6; process 0 position 2 live moves 6; channel 0 capacity 1 oldest 2 held 0 closed
+            run 0 0 0 0|: moved 3 enlarged 0; register 0 is -6; process 0 position 2 live moves 6; channel 0 capacity 1 oldest 2 held 0 peak 1 closed
             PICK 0|: waiting-full 1
             drive 3|: settled picks 1 enlarged 0
-            TAKE 1|: value 10; channel 1 capacity 1 oldest 1 held 0 open; accepted 4
-            drive 4|: spent picks 4 enlarged 0; process 0 position 4 stopped moves 10; channel 1 capacity 1 oldest 1 held 1 closed; cell 257 is -6
-            TAKE 1|: value -6; channel 1 capacity 1 oldest 2 held 0 closed; accepted 5
+            TAKE 1|: value 10; channel 1 capacity 1 oldest 1 held 0 peak 1 open; accepted 4
+            drive 4|: spent picks 4 enlarged 0; process 0 position 4 stopped moves 10; channel 1 capacity 1 oldest 1 held 1 peak 1 closed; cell 257 is -6
+            TAKE 1|: value -6; channel 1 capacity 1 oldest 2 held 0 peak 1 closed; accepted 5
             TAKE 1|: end; accepted 6
             TAKE 1|: end; accepted 7
             PICK 0|: ended
@@ -367,8 +373,8 @@ fn bursts() {
          burst 0 1|: fed 0 refused 16
          lane stops.bin|
          burst 0|: fed 0 accepted
-         burst 0 7 -8|: fed 2 accepted; channel 0 capacity 3 oldest 0 held 2 open; cell 0 is 7; cell 1 is -8; accepted 2
-         burst 0 9 10 11|: fed 1 refused 10; channel 0 capacity 3 oldest 0 held 3 open; cell 2 is 9; accepted 3
+         burst 0 7 -8|: fed 2 accepted; channel 0 capacity 3 oldest 0 held 2 peak 2 open; cell 0 is 7; cell 1 is -8; accepted 2
+         burst 0 9 10 11|: fed 1 refused 10; channel 0 capacity 3 oldest 0 held 3 peak 3 open; cell 2 is 9; accepted 3
          burst 0 10|: fed 0 refused 10
          burst 0|: fed 0 accepted
          burst 1 1|: fed 0 refused 9
@@ -376,23 +382,57 @@ fn bursts() {
          burst 2 1|: fed 0 refused 8
          burst 2|: fed 0 refused 8
          burst 256|: fed 0 refused 8
-         make channel 0 capacity 3 oldest 254 held 1 open|
+         make channel 0 capacity 3 oldest 254 held 1 peak 2 open|
          make accepted 18446744073709551614|
-         burst 0 98 6 5|: fed 2 refused 10; channel 0 capacity 3 oldest 254 held 3 open; cell 0 is 6; cell 255 is 98; accepted 18446744073709551615
-         close 0|: accepted; channel 0 capacity 3 oldest 254 held 3 closed
+         burst 0 98 6 5|: fed 2 refused 10; channel 0 capacity 3 oldest 254 held 3 peak 3 open; cell 0 is 6; cell 255 is 98; accepted 18446744073709551615
+         close 0|: accepted; channel 0 capacity 3 oldest 254 held 3 peak 3 closed
          burst 0 1|: fed 0 refused 11
          burst 0|: fed 0 accepted
-         make channel 0 capacity 3 oldest 254 held 0 open|
+         make channel 0 capacity 3 oldest 254 held 0 peak 2 open|
          make accepted 0|
-         pick 0|: moved; process 0 position 0 stopped moves 1; channel 1 capacity 2 oldest 0 held 0 closed
+         pick 0|: moved; process 0 position 0 stopped moves 1; channel 1 capacity 2 oldest 0 held 0 peak 0 closed
          burst 0 1 2 3 4 5|: fed 5 accepted; accepted 5
          burst 0|: fed 0 accepted
-         close 0|: accepted; channel 0 capacity 3 oldest 254 held 0 closed; accepted 6
+         close 0|: accepted; channel 0 capacity 3 oldest 254 held 0 peak 2 closed; accepted 6
          burst 0 1 2|: fed 0 refused 11
-         make channel 0 capacity 3 oldest 254 held 1 closed|
+         make channel 0 capacity 3 oldest 254 held 1 peak 2 closed|
          burst 9|: fed 0 refused 16
          room 8191|
          burst 9|: fed 0 refused 15",
+    );
+}
+
+/// The most that was held stands after what is held.
+#[test]
+fn peaks() {
+    // Channel 0 in, 1 out; the process passes on.
+    let passes = [code(11, 0, 0, 3), code(12, 0, 1, 0), code(8, 0, 0, 0), STOP];
+    let passes = network_of(&[&passes], &[from_outside(0, 3), to_outside(0, 2)]);
+    let folder = folder("peaks", &[("passes.bin", passes)]);
+    replays(
+        &folder,
+        "lane passes.bin|
+         burst 0 7 8|: fed 2 accepted; channel 0 capacity 3 oldest 0 held 2 peak 2 open; cell 0 is 7; cell 1 is 8; accepted 2
+         pick 0|: moved; register 0 is 7; process 0 position 1 live moves 1; channel 0 capacity 3 oldest 1 held 1 peak 2 open
+         feed 0 9|: accepted; channel 0 capacity 3 oldest 1 held 2 peak 2 open; cell 2 is 9; accepted 3
+         lent-feed 0 10|: accepted; channel 0 capacity 3 oldest 1 held 3 peak 3 open; cell 3 is 10; accepted 4
+         run 0|: moved 1 enlarged 0; process 0 position 2 live moves 2; channel 1 capacity 2 oldest 0 held 1 peak 1 open; cell 256 is 7
+         take 1|: value 7; channel 1 capacity 2 oldest 1 held 0 peak 1 open; accepted 5
+         make channel 1 capacity 2 oldest 1 held 0 peak 2 open|
+         with channel 0 capacity 3 oldest 1 held 3 peak 3 open|: moved; process 0 position 0 live moves 3
+         with channel 0 capacity 3 oldest 1 held 3 peak 2 open|: refused 16
+         with channel 0 capacity 3 oldest 1 held 3 peak 4 open|: refused 16
+         with channel 2 capacity 0 oldest 0 held 0 peak 1 open|: refused 16
+         with channel 31 capacity 0 oldest 0 held 0 peak 65535 open|: refused 16
+         drive 6|: spent picks 6 enlarged 0; register 0 is 9; process 0 position 2 live moves 8\
+; channel 0 capacity 3 oldest 3 held 1 peak 3 open; channel 1 capacity 2 oldest 1 held 2 peak 2 open; cell 257 is 8; cell 258 is 9
+         make process 0 position 3 live moves 0|
+         pick 0|: moved; process 0 position 3 stopped moves 1; channel 0 capacity 3 oldest 3 held 0 peak 3 open; channel 1 capacity 2 oldest 1 held 2 peak 2 closed
+         burst 0 1 2 3 4 5|: fed 5 accepted; accepted 10
+         make channel 0 capacity 3 oldest 3 held 0 peak 0 open|
+         feed 0 6|: accepted; accepted 11
+         show|; register 0 is 9; process 0 position 3 stopped moves 1; channel 0 capacity 3 oldest 3 held 0 peak 0 open; channel 1 capacity 2 oldest 1 held 2 peak 2 closed\
+; cell 0 is 7; cell 1 is 8; cell 2 is 9; cell 3 is 10; cell 256 is 7; cell 257 is 8; cell 258 is 9; accepted 11",
     );
 }
 
@@ -403,8 +443,8 @@ fn a_position_after_a_drive_stands_as_it_is_now() {
     replays(
         &folder,
         "lane sample.bin|
-         close 0|: accepted; channel 0 capacity 1 oldest 0 held 0 closed; accepted 1
-         drive 2|: spent picks 2 enlarged 0; process 0 position 4 stopped moves 2; channel 1 capacity 1 oldest 0 held 0 closed",
+         close 0|: accepted; channel 0 capacity 1 oldest 0 held 0 peak 0 closed; accepted 1
+         drive 2|: spent picks 2 enlarged 0; process 0 position 4 stopped moves 2; channel 1 capacity 1 oldest 0 held 0 peak 0 closed",
     );
 }
 
@@ -428,34 +468,34 @@ fn reliefs() {
         &folder,
         "lane own.bin|
          relieve 0|: refused 13; buffer
-         pick 0|: moved; process 0 position 1 live moves 1; channel 0 capacity 1 oldest 0 held 1 open; cell 0 is 0
+         pick 0|: moved; process 0 position 1 live moves 1; channel 0 capacity 1 oldest 0 held 1 peak 1 open; cell 0 is 0
          pick 0|: moved; process 0 position 0 live moves 2
          pick 0|: waiting-full 0
          relieve 0|: refused 15; buffer
-         relieve 3|: enlarged 0 ring 1; buffer 0 99 99; channel 0 capacity 2 oldest 0 held 1 open; accepted 1
+         relieve 3|: enlarged 0 ring 1; buffer 0 99 99; channel 0 capacity 2 oldest 0 held 1 peak 1 open; accepted 1
          relieve 1|: refused 13; buffer 99
-         drive 5|: spent picks 5 enlarged 2; process 0 position 1 live moves 7; channel 0 capacity 4 oldest 0 held 4 open\
+         drive 5|: spent picks 5 enlarged 2; process 0 position 1 live moves 7; channel 0 capacity 4 oldest 0 held 4 peak 4 open\
 ; cell 1 is 0; cell 2 is 0; cell 3 is 0; accepted 3
-         run 0 255 0 0|: moved 3 enlarged 1; process 0 position 0 live moves 10; channel 0 capacity 5 oldest 0 held 5 open; cell 4 is 0; accepted 4
-         make channel 0 capacity 256 oldest 9 held 256 open|
+         run 0 255 0 0|: moved 3 enlarged 1; process 0 position 0 live moves 10; channel 0 capacity 5 oldest 0 held 5 peak 5 open; cell 4 is 0; accepted 4
+         make channel 0 capacity 256 oldest 9 held 256 peak 256 open|
          relieve 0|: refused 14; buffer
          run 255 0|: moved 0 enlarged 0
          drive 9|: ceiling picks 1 enlarged 0
-         make channel 0 capacity 255 oldest 9 held 255 open|
+         make channel 0 capacity 255 oldest 9 held 255 peak 255 open|
          make register 0 7|
-         drive 18446744073709551615|: ceiling picks 4 enlarged 1; process 0 position 0 live moves 12; channel 0 capacity 256 oldest 9 held 256 open; cell 8 is 7; accepted 5
+         drive 18446744073709551615|: ceiling picks 4 enlarged 1; process 0 position 0 live moves 12; channel 0 capacity 256 oldest 9 held 256 peak 256 open; cell 8 is 7; accepted 5
          lane detour.bin|
-         drive 8|: spent picks 8 enlarged 1; process 0 position 0 live moves 4; channel 0 capacity 3 oldest 0 held 2 open; cell 0 is 0; cell 1 is 0; accepted 1
+         drive 8|: spent picks 8 enlarged 1; process 0 position 0 live moves 4; channel 0 capacity 3 oldest 0 held 2 peak 2 open; cell 0 is 0; cell 1 is 0; accepted 1
          lane detour.bin|
-         drive 7|: spent picks 6 enlarged 0; process 0 position 1 live moves 3; channel 0 capacity 2 oldest 0 held 2 open; cell 0 is 0; cell 1 is 0
+         drive 7|: spent picks 6 enlarged 0; process 0 position 1 live moves 3; channel 0 capacity 2 oldest 0 held 2 peak 2 open; cell 0 is 0; cell 1 is 0
          pick 0|: moved; process 0 position 0 live moves 4
          relieve 1|: refused 15; buffer 99
-         relieve 2|: enlarged 0 ring 2; buffer 0 1; channel 0 capacity 3 oldest 0 held 2 open; accepted 1
+         relieve 2|: enlarged 0 ring 2; buffer 0 1; channel 0 capacity 3 oldest 0 held 2 peak 2 open; accepted 1
          lane both.bin|
          run 0 0 0 0 0 0 0 1 1 1 1 1 1 1 1|: moved 12 enlarged 0; process 0 position 0 live moves 6; process 1 position 0 live moves 6\
-; channel 0 capacity 3 oldest 0 held 3 open; channel 1 capacity 3 oldest 0 held 3 open\
+; channel 0 capacity 3 oldest 0 held 3 peak 3 open; channel 1 capacity 3 oldest 0 held 3 peak 3 open\
 ; cell 0 is 0; cell 1 is 0; cell 2 is 0; cell 256 is 0; cell 257 is 0; cell 258 is 0
-         relieve 4|: enlarged 0 ring 2; buffer 0 1 99 99; channel 0 capacity 4 oldest 0 held 3 open; accepted 1",
+         relieve 4|: enlarged 0 ring 2; buffer 0 1 99 99; channel 0 capacity 4 oldest 0 held 3 peak 3 open; accepted 1",
     );
 }
 
@@ -481,11 +521,11 @@ fn rooms() {
              with accepted 1|: refused 15
              close 9|: refused 8
              relieve 0|: refused 13; buffer
-             make channel 0 capacity 0 oldest 0 held 0 open|
+             make channel 0 capacity 0 oldest 0 held 0 peak 0 open|
              pick 0|: refused 15
              close 0|: refused 16
              relieve 0|: refused 16; buffer
-             make channel 0 capacity 1 oldest 0 held 0 open|
+             make channel 0 capacity 1 oldest 0 held 0 peak 0 open|
             "
         );
     }
@@ -515,7 +555,7 @@ fn a_lane_begins_anew() {
         "show|
          pick 0|: refused 16
          lane sample.bin|
-         feed 0 7|: accepted; channel 0 capacity 1 oldest 0 held 1 open; cell 0 is 7; accepted 1
+         feed 0 7|: accepted; channel 0 capacity 1 oldest 0 held 1 peak 1 open; cell 0 is 7; accepted 1
          make cell 8192 1|
          read absent.bin|: refused 1 place 0
          read empty.bin|: refused 1 place 0
@@ -524,9 +564,9 @@ fn a_lane_begins_anew() {
          read .|: refused 1 place 0
          read a b.bin|: accepted
          read sample.bin|: accepted
-         show|; channel 0 capacity 1 oldest 0 held 1 open; channel 1 capacity 1 oldest 0 held 0 open; cell 0 is 7; cell 8192 is 1; accepted 1
+         show|; channel 0 capacity 1 oldest 0 held 1 peak 1 open; channel 1 capacity 1 oldest 0 held 0 peak 0 open; cell 0 is 7; cell 8192 is 1; accepted 1
          lane a b.bin|
-         show|; channel 0 capacity 1 oldest 0 held 0 open; channel 1 capacity 1 oldest 0 held 0 open
+         show|; channel 0 capacity 1 oldest 0 held 0 peak 0 open; channel 1 capacity 1 oldest 0 held 0 peak 0 open
          lane absent.bin|
          show|
          drive 0|: refused 16
@@ -559,7 +599,7 @@ fn writes() {
     let first = format!("{head}{records}{}", "0".repeat(2 * 430));
     let code = "0b000004".to_string() + "03000000" + "0c000100" + "08000000" + "00000000";
     let second = format!("{code}{}0001", "0".repeat(2 * 488));
-    let script = "lane sample.bin\nmake channel 0 capacity 9 oldest 1 held 2 closed\n";
+    let script = "lane sample.bin\nmake channel 0 capacity 9 oldest 1 held 2 peak 5 closed\n";
     let lines = "write 1026\nwrite 1024\nwrite 3\nwrite 0\nmake network 2 2\nwrite 2\n";
     let found = printed(&folder, &format!("{script}{lines}"));
     let found: Vec<&str> = found.lines().skip(2).collect();
@@ -581,16 +621,16 @@ fn with_leaves_the_lane() {
         &folder,
         "lane sample.bin|
          with accepted 4|: waiting-empty 0
-         with channel 0 capacity 1 oldest 255 held 1 open|: moved; register 0 is 99; process 0 position 1 live moves 1; channel 0 capacity 1 oldest 0 held 0 open
-         with channel 0 capacity 257 oldest 0 held 0 open|: refused 16
-         with process 0 position 4 live moves 18446744073709551615|: moved; process 0 position 4 stopped moves 18446744073709551615; channel 1 capacity 1 oldest 0 held 0 closed
+         with channel 0 capacity 1 oldest 255 held 1 peak 1 open|: moved; register 0 is 99; process 0 position 1 live moves 1; channel 0 capacity 1 oldest 0 held 0 peak 1 open
+         with channel 0 capacity 257 oldest 0 held 0 peak 0 open|: refused 16
+         with process 0 position 4 live moves 18446744073709551615|: moved; process 0 position 4 stopped moves 18446744073709551615; channel 1 capacity 1 oldest 0 held 0 peak 0 closed
          with process 0 position 5 live moves 0|: refused 16
-         make channel 0 capacity 1 oldest 7 held 1 open|
-         with cell 7 -12|: moved; register 0 is -12; process 0 position 1 live moves 1; channel 0 capacity 1 oldest 8 held 0 open
+         make channel 0 capacity 1 oldest 7 held 1 peak 1 open|
+         with cell 7 -12|: moved; register 0 is -12; process 0 position 1 live moves 1; channel 0 capacity 1 oldest 8 held 0 peak 1 open
          with byte 0 14|: refused 16
-         with byte 3 0|: moved; register 0 is 99; process 0 position 1 live moves 1; channel 0 capacity 1 oldest 8 held 0 open
-         show|; channel 0 capacity 1 oldest 7 held 1 open; channel 1 capacity 1 oldest 0 held 0 open
-         pick 0|: moved; register 0 is 99; process 0 position 1 live moves 1; channel 0 capacity 1 oldest 8 held 0 open",
+         with byte 3 0|: moved; register 0 is 99; process 0 position 1 live moves 1; channel 0 capacity 1 oldest 8 held 0 peak 1 open
+         show|; channel 0 capacity 1 oldest 7 held 1 peak 1 open; channel 1 capacity 1 oldest 0 held 0 peak 0 open
+         pick 0|: moved; register 0 is 99; process 0 position 1 live moves 1; channel 0 capacity 1 oldest 8 held 0 peak 1 open",
     );
 }
 
@@ -602,17 +642,17 @@ fn edits_are_made() {
         &folder,
         "lane sample.bin|
          make register 127 -5|
-         show|; register 127 is -5; channel 0 capacity 1 oldest 0 held 0 open; channel 1 capacity 1 oldest 0 held 0 open
+         show|; register 127 is -5; channel 0 capacity 1 oldest 0 held 0 peak 0 open; channel 1 capacity 1 oldest 0 held 0 peak 0 open
          pick 0|: refused 16
          make register 127 0|
          make process 0 position 1 live moves 18446744073709551614|
          make register 0 1073741824|
          pick 0|: moved; register 0 is -2147483648; process 0 position 2 live moves 18446744073709551615
          make accepted 18446744073709551615|
-         close 0|: accepted; channel 0 capacity 1 oldest 0 held 0 closed
-         pick 0|: moved; process 0 position 3 live moves 18446744073709551615; channel 1 capacity 1 oldest 0 held 1 open; cell 256 is -2147483648
+         close 0|: accepted; channel 0 capacity 1 oldest 0 held 0 peak 0 closed
+         pick 0|: moved; process 0 position 3 live moves 18446744073709551615; channel 1 capacity 1 oldest 0 held 1 peak 1 open; cell 256 is -2147483648
          make cell 256 6|
-         take 1|: value 6; channel 1 capacity 1 oldest 1 held 0 open
+         take 1|: value 6; channel 1 capacity 1 oldest 1 held 0 peak 1 open
          make slot 0 first 1 count 4|
          pick 0|: refused 16
          make slot 0 first 0 count 6|
@@ -712,8 +752,8 @@ fn any_edit(random: &mut Random) -> Edit {
         }
         5 => Edit::Register(random.below(128), random.value()),
         6 => {
-            let [capacity, oldest, held] = [0; 3].map(|_: u8| small(random));
-            let channel = Channel { capacity, oldest, held, closed: random.percent(50) };
+            let [capacity, oldest, held, peak] = [0; 4].map(|_: u8| small(random));
+            let channel = Channel { capacity, oldest, held, peak, closed: random.percent(50) };
             Edit::Channel(random.one(&[0, 1, 2, 31]), channel)
         }
         7 => Edit::Cell(random.below(8_193), random.value()),

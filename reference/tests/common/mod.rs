@@ -28,6 +28,12 @@ pub fn fresh(programs: &[&[Instruction]], channels: &[Record]) -> Lane {
     Lane::fresh(network)
 }
 
+/// So many messages by hand, and the channel has held no more.
+pub fn hold(lane: &mut Lane, channel: usize, held: u16) {
+    let channel = &mut lane.channels[channel];
+    (channel.held, channel.peak) = (held, held);
+}
+
 pub fn cells() -> Box<Cells> {
     Box::new([0; CELLS])
 }
