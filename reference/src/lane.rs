@@ -57,7 +57,9 @@ impl Channel {
     pub fn put(&mut self, cells: &mut Cells, number: u8, value: i32) {
         cells[place(number, self.oldest + self.held)] = value;
         self.held += 1;
-        self.peak = self.peak.max(self.held);
+        if self.held > self.peak {
+            self.peak = self.held;
+        }
     }
 
     /// Gives the oldest message. Only where one is held.

@@ -230,10 +230,12 @@ fn closings_and_the_end_leave_it() {
     assert_eq!(lane.feed(0, 3), Err(Refusal::Closed));
     assert_eq!(lane.fillings(), [(1, 2), (1, 1), (0, 0)]);
     // Process 0 receives the end and stops: channel 1 closes.
-    lane.moves(0, 5);
+    lane.moves(0, 4);
+    lane.moves(1, 1);
+    lane.moves(0, 1);
     assert!(lane.lane.has_ended(0) && lane.lane.channels[1].closed);
-    assert_eq!(lane.fillings(), [(0, 2), (2, 2), (0, 0)]);
-    lane.moves(1, 8);
+    assert_eq!(lane.fillings(), [(0, 2), (1, 2), (0, 0)]);
+    lane.moves(1, 7);
     assert_eq!(lane.fillings(), [(0, 2), (0, 2), (2, 2)]);
     for answer in [Taken::Value(1), Taken::Value(2), Taken::End, Taken::End] {
         assert_eq!(lane.take(2), Ok(answer));
@@ -243,11 +245,13 @@ fn closings_and_the_end_leave_it() {
     for last in [code(12, 0, 0, 0), code(13, 0, 0, 0)] {
         let closes = [code(12, 0, 0, 0), code(12, 0, 0, 0), code(13, 0, 0, 0), last, STOP];
         let mut lane = Watched::new(fresh(&[&closes], &[to_outside(0, 2)]));
-        lane.moves(0, 3);
-        assert_eq!(lane.fillings(), [(2, 2)]);
+        lane.moves(0, 2);
+        assert_eq!(lane.take(0), Ok(Taken::Value(0)));
+        lane.moves(0, 1);
+        assert_eq!((lane.lane.channels[0].closed, lane.fillings()), (true, [(1, 2)]));
         lane.moves(0, 1);
         assert_eq!(lane.lane.processes[0].condition, Condition::Faulted);
-        assert_eq!(lane.fillings(), [(2, 2)]);
+        assert_eq!(lane.fillings(), [(1, 2)]);
     }
 }
 
