@@ -24,7 +24,7 @@ use Rattle.lane.proofs.CallCases.{pick-cases, feed-cases, close-cases, take-cas
 use Rattle.relief.specs.Relief.{Relief}
 use Rattle.relief.proofs.Enlarged.{relief-cases}
 use Rattle.kahn.specs.Calls.{Call, pick, feed, close, take, relieve, apply}
-use Rattle.kahn.specs.Steps.{Step, call, innerRelief, afterStep, relievedLane}
+use Rattle.kahn.specs.Steps.{Step, call, innerRelief, afterStep}
 use Rattle.kahn.proofs.InnerRelief.{inner-cases}
 
 -- ---- a channel
