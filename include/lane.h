@@ -8,7 +8,7 @@
  * Platform: the archive is for x86-64 Linux, as C's own calling convention there has it. Nothing checks these declarations against the proved
  * source but the host in examples/, which the gate builds and runs.
  *
- * Stack: no proof speaks of it. Of this build some 54,800 bytes were seen at the most in `lane_bench`, over the examples and the lanes of docs/growth; of
+ * Stack: no proof speaks of it. Of an earlier build 54,712 bytes were seen at the most in `lane_bench`, over the examples and the lanes of docs/growth; of
  * earlier ones some 158,000. It hangs on how the compiler lays functions into one another, so give a thread that calls it 256 KB.
  * `lane_block_check` takes next to none.
  */
