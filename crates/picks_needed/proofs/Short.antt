@@ -17,7 +17,7 @@ use Rattle.lane.specs.State.{World, channelOf}
 use Rattle.lane.proofs.SoundLaws.{sound-says}
 use Rattle.waits.specs.Waits.{pointing, fullWait, waitsAt}
 use Rattle.rings.specs.Rings.{iter, OnRing, found}
-use Rattle.rings.proofs.Walk.{Stays}
+use Rattle.rings.proofs.Pointings.{Stays}
 use Rattle.rings.proofs.Rule.{ring-at}
 use Rattle.relief.specs.Relief.{refused, foundIn}
 use Rattle.relief.proofs.Relieving.{pointing-stays, lane-found, answers-14}

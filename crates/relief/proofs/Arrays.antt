@@ -16,7 +16,7 @@ use Rattle.lane_parts.specs.Parts.{channelsOf, ThirtyTwo}
 use Rattle.lane_parts.proofs.Zip.{put-enlarged}
 use Rattle.rings.specs.Rings.{Found, search}
 use Rattle.rings.specs.Arrays.{pointsIn, numberIn}
-use Rattle.rings.proofs.Walk.{points-at, points-off}
+use Rattle.rings.proofs.Pointings.{points-at, points-off}
 use Rattle.rings.proofs.Inside.{search-same}
 use Rattle.waits.specs.Waits.{pointing, fullWait, waitsAt}
 use Rattle.waits.specs.Lent.{Arrays, Shows, AreWaits}

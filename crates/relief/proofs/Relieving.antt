@@ -24,9 +24,11 @@ use Rattle.lane.proofs.SoundLaws.{Sound, sound-says}
 use Rattle.waits.specs.Waits.{Wait, free, forMessage, forRoom, waitIn, waitOf, roomIn, pointing, fullWait, waitsAt}
 use Rattle.rings.specs.Rings.{iter, OnRing, Found, noRing, ceiling, found}
 use Rattle.rings.specs.Taken.{OnFullRing, Taken}
+use Rattle.rings.specs.Left.{leftOf}
 use Rattle.relief.specs.Relief.{Told, enlarged, refused, NoOther, relief, foundIn, grown, settled, relieveOf}
-use Rattle.rings.proofs.Walk.{Stays}
+use Rattle.rings.proofs.Pointings.{Stays}
 use Rattle.waits.proofs.WaitLaws.{wait-any}
+use Rattle.rings.proofs.Stripping.{left-exactly}
 use Rattle.rings.proofs.Rule.{taken-short, found-exactly, none-exactly, ceiling-exactly}
 
 -- ---- a sound lane is as the laws of rings want it
@@ -62,6 +64,10 @@ module _ (l : Lane) (s : Sound l) where
 
 -- ---- the ring and channel of a sound lane
 module _ (l : Lane) (e : soundOf l ≡ true) where
+  -- stripping its processes leaves "exactly the processes on rings"
+  pub lane-left : (p : ℕ) → (leftOf (pointing l) (l .network .processes) p ≡ true) ↔ OnRing (pointing l) (l .network .processes) p
+  lane-left = left-exactly (pointing l) (l .network .processes) (pointing-stays l (sound-says l e))
+
   pub lane-found : (ring : List ℕ) (c : ℕ) → (foundIn l ≡ found ring c) ↔ Taken (pointing l) (fullWait l) (waitsAt l) (l .network .processes) ring c
   lane-found = found-exactly (pointing l) (fullWait l) (l .network .processes) (pointing-stays l (sound-says l e)) (waitsAt l)
 

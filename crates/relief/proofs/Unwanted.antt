@@ -15,7 +15,7 @@ use Rattle.lane.proofs.SoundLaws.{sound-says}
 use Rattle.waits.specs.Waits.{pointing, fullWait}
 use Rattle.waits.specs.Parts.{wantsRoom, someWantsRoom}
 use Rattle.rings.specs.Rings.{iter, OnRing, ringLength, noRing}
-use Rattle.rings.proofs.Walk.{Stays}
+use Rattle.rings.proofs.Pointings.{Stays}
 use Rattle.rings.proofs.Circles.{on, on-ring, ring-reach}
 use Rattle.relief.specs.Relief.{refused, relief, foundIn, relieveOf}
 use Rattle.relief.proofs.Relieving.{pointing-stays, lane-none}

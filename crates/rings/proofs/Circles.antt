@@ -11,7 +11,7 @@ use borrow.Author.Tests.{eq-eqb, ne-eqb}
 use lib.ListN.{getD}
 use Rattle.rings.specs.Rings.{iter, OnRing, closesFrom, ringLength, chain}
 use Rattle.rings.proofs.Pigeonhole.{Smallest, smallest, pigeonhole}
-use Rattle.rings.proofs.Walk.{iter-shift, Stays}
+use Rattle.rings.proofs.Pointings.{iter-shift, Stays}
 
 -- ---- chains
 -- steps add up

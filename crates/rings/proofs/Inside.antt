@@ -9,7 +9,7 @@ use native.Mathlib.Decide.{decLt}
 use native.Mathlib.Omega.{arith}
 use borrow.Author.Tests.{lt-ltb, le-ltb}
 use Rattle.rings.specs.Rings.{iter, ringLength, chain, ringOf, someBelow, lesser, least, onRingBelow, firstFrom, foundAt, search}
-use Rattle.rings.proofs.Walk.{iter-shift, Stays}
+use Rattle.rings.proofs.Pointings.{iter-shift, Stays}
 use Rattle.rings.proofs.Circles.{length-says, on}
 
 -- each of a list is below P

@@ -1,7 +1,11 @@
 pub mod Least
 pub mod First
-pub mod Walk
+pub mod Pointings
 pub mod Pigeonhole
 pub mod Circles
 pub mod Inside
 pub mod Rule
+pub mod Tally
+pub mod Stripping
+pub mod Strips
+pub mod Walk

@@ -18,7 +18,7 @@ use Rattle.rings.specs.Rings.{iter, OnRing, ringLength, chain, ringOf, s
 use Rattle.rings.specs.Taken.{OnFullRing, Relievable, IsRing, Grows, Taken}
 use Rattle.rings.proofs.Least.{Below, below-says, says-below, some-at, at-some, least-each, least-in, least-below}
 use Rattle.rings.proofs.First.{first-holds, first-before, first-is}
-use Rattle.rings.proofs.Walk.{length-chain, Stays}
+use Rattle.rings.proofs.Pointings.{length-chain, Stays}
 use Rattle.rings.proofs.Circles.{RingOf, length-says, length-short, ring-length, on, on-ring, within, chain-at, ring-distinct, ring-reach, ring-back, ring-around}
 
 -- ---- the list of a ring

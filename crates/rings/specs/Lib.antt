@@ -1,3 +1,4 @@
 pub mod Rings
 pub mod Taken
+pub mod Left
 pub mod Arrays

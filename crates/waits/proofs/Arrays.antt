@@ -31,6 +31,7 @@ use Rattle.waits.specs.Waits.{pointing, fullWait, waitsAt}
 use Rattle.waits.specs.Parts.{waitingOf, waitFrom, waitBy, wantsRoom, someWantsRoom}
 use Rattle.waits.specs.Lent.{Arrays, arrays, Shows, Looked, AllLooked}
 use Rattle.waits.proofs.WaitLaws.{waitingFor, waits-are}
+use Rattle.waits.proofs.Receivers.{not-gone}
 
 -- ---- those of a lane taken apart
 module _ {ps ks ms ns os hs ts : List ℕ} {cs : List Bool} (l : Lane) where
@@ -67,17 +68,16 @@ module _ (v : Arrays) (l : Lane) (shown : Shows v l) (s : Sound l) (p : ℕ) (h 
 
     -- what it waits for, from the results of the code's calls
     pub looked :
-        {c : ℕ} {k : Channel} {gone : Bool} {w : Waiting} {r : Wait}
+        {c : ℕ} {k : Channel} {w : Waiting} {r : Wait}
         → c ≡ channelIn i
         → k ≡ getD (channelsOf (v .capacity) (v .oldest) (v .held) (v .peak) (v .closed)) c noChannel
-        → gone ≡ isEnded (conditionOf (getD (v .conditions) (getD (v .receiver) c 0) 0))
-        → w ≡ waitingOf (i .op) (eqb (getD (v .conditions) p 0) 0) k gone
+        → w ≡ waitingOf (i .op) (eqb (getD (v .conditions) p 0) 0) k false
         → r ≡ waitFrom w c (getD (v .sender) c 0) (getD (v .receiver) c 0) (k .capacity)
         → r ≡ waitBy l p
-    looked {c} {w = w} e₃ e₄ e₅ e₆ e₇ =
+    looked {c} {w = w} e₃ e₄ e₅ e₆ =
         let how : w ≡ waitingFor l p =
-        e₆ ∙ rw (e₅, e₄, live-number (getD (v .conditions) p 0), ← shown .channel, ← shown .lent .receiver, ← shown .condition p, ← shown .condition (getD (l .network .receiver) c 0), e₃, stands) in
-        waits-are l p h how (e₃ ∙ ap channelIn stands) (e₇ ∙ rw (e₄, ← shown .channel, ← shown .lent .sender, ← shown .lent .receiver))
+        e₅ ∙ rw (e₄, live-number (getD (v .conditions) p 0), ← shown .channel, ← shown .condition p, e₃, stands) (not-gone l s p h) in
+        waits-are l p h how (e₃ ∙ ap channelIn stands) (e₆ ∙ rw (e₄, ← shown .channel, ← shown .lent .sender, ← shown .lent .receiver))
 
 -- ---- all processes
 -- the first p entries of three arrays are the waits of the first p processes, whatever lane it is

@@ -1,6 +1,7 @@
 // Who waits for whom: for each process of a sound lane how it waits, the process that it points to, and its full wait.
 use process::Channel;
 ghost use mathlib.Core.Path.{_≡_};
+ghost use mathlib.Core.Bool.{false};
 ghost use lib.ListN.{length};
 ghost use Rattle.waits.specs.Parts.{waitingOf, waitFrom};
 ghost use Rattle.waits.specs.Lent.{arrays, Relievable, Waitable, Looked, RoomLooked, RoomsLooked, AllLooked};
@@ -21,10 +22,10 @@ pub struct Wait {
     pub channel: u8,
 }
 
-// How a process waits, live or not, that stands at this opcode, with its channel so and that channel's receiver ended or not: a receive at
-// an empty open channel, a send at a full open one.
-fn waiting_at(op: u8, live: bool, h: Channel, gone: bool) -> Waiting
-    ensures { λ r. ⌜ r ≡ waitingOf op live h gone ⌝ }
+// How a process waits, live or not, that stands at this opcode, with its channel so: a receive at an empty open channel, a send at a full open one.
+// The receiver of a channel that is full has not ended: one that has holds nothing.
+fn waiting_at(op: u8, live: bool, h: Channel) -> Waiting
+    ensures { λ r. ⌜ r ≡ waitingOf op live h false ⌝ }
 {
     if !live {
         return Waiting::Free;
@@ -39,9 +40,6 @@ fn waiting_at(op: u8, live: bool, h: Channel, gone: bool) -> Waiting
         return Waiting::Free;
     }
     if op == 12 {
-        if gone {
-            return Waiting::Free;
-        }
         if h.held == h.capacity {
             return Waiting::Full;
         }
@@ -97,8 +95,7 @@ pub fn wait_at(
     let i = network::fetch(code, lane_parts::place(first[p], positions[p]));
     let c = lane_parts::channel_of(i);
     let h = lane_parts::channel_at(c, capacity, oldest, held, peak, closed);
-    let gone = lane_parts::ended_at(receiver[c], conditions);
-    let waiting = waiting_at(i.op, conditions[p] == 0, h, gone);
+    let waiting = waiting_at(i.op, conditions[p] == 0, h);
     wait_in(waiting, c as u8, sender[c], receiver[c], h.capacity)
 }
 

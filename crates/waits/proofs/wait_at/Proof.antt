@@ -42,14 +42,8 @@ channel-of-requires c κs = search needs
 channel-at-requires : tie.Need-channel-at-requires
 channel-at-requires c κs = search needs
 
-element-copy-out-ended-at : tie.Need-element-copy-out-ended-at
-element-copy-out-ended-at c = search needs
-
-ended-at-requires : tie.Need-ended-at-requires
-ended-at-requires c κs = search needs
-
 element-copy-out-waiting-at : tie.Need-element-copy-out-waiting-at
-element-copy-out-waiting-at c = low-at (c .before .before .before .before .before .before .before .before)
+element-copy-out-waiting-at c = low-at (c .before .before .before .before .before .before)
 
 waiting-at-requires : tie.Need-waiting-at-requires
 waiting-at-requires c κs = search needs
@@ -69,14 +63,14 @@ wait-in-requires c κs = search needs
 returns : tie.Need-returns
 returns c l shown sound there =
     let w = c .before .before .before in
-    let i = w .before .before .before .before .before .before in
+    let k = w .before .before in
+    let i = k .before .before in
     let s = i .before .before .before .before in
     looked (arrays-at s) l shown (sound-says l sound) (s .args .p) there
     (i .before .place .ensures .0)
     (i .fetch .ensures)
-    (w .before .before .before .before .before .channel-of .ensures .0)
-    (w .before .before .before .before .channel-at .ensures)
-    (w .before .before .ended-at .ensures)
+    (k .before .channel-of .ensures .0)
+    (k .channel-at .ensures)
     (w .waiting-at .ensures)
     (c .wait-in .ensures)
 
@@ -92,8 +86,6 @@ wait-at-spec =
     fetch-requires
     channel-of-requires
     channel-at-requires
-    element-copy-out-ended-at
-    ended-at-requires
     element-copy-out-waiting-at
     waiting-at-requires
     cast-wait-in

@@ -33,30 +33,22 @@ returns-4 c =
 returns-5 : tie.Need-returns-5
 unfolding waitingOf
 returns-5 c =
-    let e = c .before .before .before in
-    rw (is-live (e .before), e .if2 .left, c .before .if5 .taken, c .if6 .taken)
+    let t = c .before .before in
+    let e = t .before .before in
+    rw (is-live (e .before), e .if2 .left, t .if5 .taken, eq-eqb _ _ (c .if6 .taken))
 
 returns-6 : tie.Need-returns-6
 unfolding waitingOf
 returns-6 c =
-    let t = c .before .before .before in
+    let t = c .before .before in
     let e = t .before .before in
-    rw (is-live (e .before), e .if2 .left, t .if5 .taken, c .before .before .if6 .left, eq-eqb _ _ (c .if7 .taken))
+    rw (is-live (e .before), e .if2 .left, t .if5 .taken, ne-eqb _ _ (c .if6 .left))
 
 returns-7 : tie.Need-returns-7
 unfolding waitingOf
 returns-7 c =
-    let t = c .before .before .before in
-    let e = t .before .before in
-    rw (is-live (e .before), e .if2 .left, t .if5 .taken, c .before .before .if6 .left, ne-eqb _ _ (c .if7 .left))
-
-returns-8 : tie.Need-returns-8
-unfolding waitingOf
-returns-8 c =
     let e = c .before .before in
     rw (is-live (e .before), e .if2 .left, ne-eqb _ _ (c .before .if3 .left), ne-eqb _ _ (c .if5 .left))
 
 pub waiting-at-spec : {M : Type 1} → statement M
-waiting-at-spec =
-    tie.close
-    (tie.spec returns returns-2 returns-3 returns-4 returns-5 returns-6 returns-7 returns-8)
+waiting-at-spec = tie.close (tie.spec returns returns-2 returns-3 returns-4 returns-5 returns-6 returns-7)
