@@ -19,6 +19,7 @@ use Rattle.rings.specs.Taken.{OnFullRing, Relievable, IsRing, Grows, Tak
 use Rattle.rings.proofs.Least.{Below, below-says, says-below, some-at, at-some, least-each, least-in, least-below}
 use Rattle.rings.proofs.First.{first-holds, first-before, first-is}
 use Rattle.rings.proofs.Pointings.{length-chain, Stays}
+use Rattle.rings.proofs.Inside.{search-same}
 use Rattle.rings.proofs.Circles.{RingOf, length-says, length-short, ring-length, on, on-ring, within, chain-at, ring-distinct, ring-reach, ring-back, ring-around}
 
 -- ---- the list of a ring
@@ -308,3 +309,8 @@ module _ (f full : ℕ → ℕ) (P : ℕ) (stays : Stays f P) where
               absurd (let z = t .1 low-first (s .ring) (s .steps) (s .waits) in omega (arith, s .below))
           finds t (inr (inl h)) = h .2
           finds t (inr (inr h)) = absurd (not-before 257 (t .0 .0) (omega (arith, h .1, t .0 .1 .ring .0)) (any-ring (t .0 .0) (t .0 .1)))
+
+-- ---- where no process has a full wait the search finds none
+pub search-idle : (f full chan : ℕ → ℕ) (P : ℕ) → Stays f P → ((q : ℕ) → q < P → full q ≡ 0) → search f full chan P ≡ noRing
+search-idle f full chan P stays idle =
+    search-same f P stays full (λ q. 0) chan chan idle (λ q h. refl) ∙ none-exactly f (λ q. 0) P stays chan (λ q. omega arith) .1 (λ p o. o .waits refl)

@@ -5,7 +5,10 @@ ghost use mathlib.Core.Path.{_≡_};
 ghost use mathlib.Core.Bool.{not, _&&_, _||_};
 ghost use Prim.Native.Nat.{_≤_};
 ghost use lib.Dec.{eqb, ltb};
+ghost use Rattle.base.specs.Lists.{table};
+ghost use Rattle.base.specs.Tests.{firstBad, isGood, isZero};
 ghost use Rattle.rings.specs.Rings.{lesser, search};
+ghost use Rattle.rings.specs.Left.{leftOf};
 ghost use Rattle.rings.specs.Arrays.{pointsIn, numberIn, foundOf};
 
 // What the search gives: the ring in the first places, its length, 0 where none is found, and the channel; whether a ring
@@ -51,13 +54,17 @@ fn either(x: bool, y: bool) -> bool
 }
 
 // The ring to relieve: from each process that is left, in turn, a walk along the pointings, which leads back to it, until one is on a ring with a
-// full wait below 256. A ring whose full waits are all at 256, the largest capacity, is passed over and remembered. Public for relief, which has at
-// most 16 processes.
-pub fn search(points: &[u8; 16], full: &[u16; 16], channel: &[u8; 16], count: usize) -> Sought
-    requires { ⌜ count ≤ 16 ⌝ }
+// full wait below 256. A ring whose full waits are all at 256, the largest capacity, is passed over and remembered.
+fn first_ring(
+    points: &[u8; 16],
+    full: &[u16; 16],
+    channel: &[u8; 16],
+    left: &[bool; 16],
+    count: usize,
+) -> Sought
+    requires { ⌜ (count ≤ 16) × (now left ≡ table 16 (leftOf (pointsIn (now points) count) count)) ⌝ }
     ensures { λ r. ⌜ (foundOf r ≡ search (pointsIn (now (points .entry)) count) (numberIn (now (full .entry))) (numberIn (now (channel .entry))) count) × (r .length ≤ 16) ⌝ }
 {
-    let left = strip::left_of(points, count);
     let mut ring = [0u8; 16];
     let mut length: usize = 0;
     let mut grows: usize = 0;
@@ -98,4 +105,34 @@ pub fn search(points: &[u8; 16], full: &[u16; 16], channel: &[u8; 16], count: us
         channel: grows,
         ceiling,
     }
+}
+
+// No process has a full wait. All are looked at, and what each has is laid over the others': the compiler can then look at several at once.
+fn none_full(full: &[u16; 16]) -> bool
+    ensures { λ r. ⌜ r ≡ isGood (firstBad (isZero (now (full .entry))) 0 16) ⌝ }
+{
+    let mut all: u16 = 0;
+    let mut p = 0;
+    while p < 16 {
+        all = all | full[p];
+        p += 1;
+    }
+    all == 0
+}
+
+// The search: where no process has a full wait nothing is searched for. Public for relief, which has at most 16 processes.
+pub fn search(points: &[u8; 16], full: &[u16; 16], channel: &[u8; 16], count: usize) -> Sought
+    requires { ⌜ count ≤ 16 ⌝ }
+    ensures { λ r. ⌜ (foundOf r ≡ search (pointsIn (now (points .entry)) count) (numberIn (now (full .entry))) (numberIn (now (channel .entry))) count) × (r .length ≤ 16) ⌝ }
+{
+    if none_full(full) {
+        return Sought {
+            ring: [0; 16],
+            length: 0,
+            channel: 0,
+            ceiling: false,
+        };
+    }
+    let left = strip::left_of(points, count);
+    first_ring(points, full, channel, &left, count)
 }

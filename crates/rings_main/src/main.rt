@@ -118,7 +118,7 @@ fn print_record(record: [u8; 2048]) {
 fn main() {
     let fd = os::open_read(b"rings.bin");
     let mut k: usize = 0;
-    while k < 13 {
+    while k < 16 {
         let mut record = [0u8; 2048];
         io::read_full(fd, &mut record);
         print_record(record);

@@ -95,8 +95,9 @@ pub fn wait_at(
     let i = network::fetch(code, lane_parts::place(first[p], positions[p]));
     let c = lane_parts::channel_of(i);
     let h = lane_parts::channel_at(c, capacity, oldest, held, peak, closed);
+    let to = receiver[c];
     let waiting = waiting_at(i.op, conditions[p] == 0, h);
-    wait_in(waiting, c as u8, sender[c], receiver[c], h.capacity)
+    wait_in(waiting, c as u8, sender[c], to, h.capacity)
 }
 
 // The same of each process, in three arrays: where it points, its full wait, its channel. Public for relief, whose callers have shown that the lane is

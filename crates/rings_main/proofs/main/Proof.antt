@@ -6,10 +6,10 @@ use Rattle.rings_main.proofs.main.Statement.{statement}
 use Rattle.rings_main.proofs.main.Tie as tie
 
 abbrev Inv-loop : tie.InvT-loop
-Inv-loop fd k₀ k = k ≤ 13
+Inv-loop fd k₀ k = k ≤ 16
 
 abbrev μ-loop : tie.MeasureT-loop
-μ-loop fd k₀ k = 13 - k
+μ-loop fd k₀ k = 16 - k
 
 slice-aggregate-open-read : tie.Need-slice-aggregate-open-read Inv-loop μ-loop
 slice-aggregate-open-read c = search needs

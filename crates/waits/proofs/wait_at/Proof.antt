@@ -42,8 +42,11 @@ channel-of-requires c κs = search needs
 channel-at-requires : tie.Need-channel-at-requires
 channel-at-requires c κs = search needs
 
+element-copy-out-to : tie.Need-element-copy-out-to
+element-copy-out-to c = search needs
+
 element-copy-out-waiting-at : tie.Need-element-copy-out-waiting-at
-element-copy-out-waiting-at c = low-at (c .before .before .before .before .before .before)
+element-copy-out-waiting-at c = low-at (c .before .before .before .before .before .before .before)
 
 waiting-at-requires : tie.Need-waiting-at-requires
 waiting-at-requires c κs = search needs
@@ -54,16 +57,13 @@ cast-wait-in c = search needs
 element-copy-out-wait-in : tie.Need-element-copy-out-wait-in
 element-copy-out-wait-in c = search needs
 
-element-copy-out-wait-in-2 : tie.Need-element-copy-out-wait-in-2
-element-copy-out-wait-in-2 c = search needs
-
 wait-in-requires : tie.Need-wait-in-requires
 wait-in-requires c κs = search needs
 
 returns : tie.Need-returns
 returns c l shown sound there =
-    let w = c .before .before .before in
-    let k = w .before .before in
+    let w = c .before .before in
+    let k = w .before .before .before in
     let i = k .before .before in
     let s = i .before .before .before .before in
     looked (arrays-at s) l shown (sound-says l sound) (s .args .p) there
@@ -86,10 +86,10 @@ wait-at-spec =
     fetch-requires
     channel-of-requires
     channel-at-requires
+    element-copy-out-to
     element-copy-out-waiting-at
     waiting-at-requires
     cast-wait-in
     element-copy-out-wait-in
-    element-copy-out-wait-in-2
     wait-in-requires
     returns)

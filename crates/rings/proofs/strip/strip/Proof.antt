@@ -74,7 +74,7 @@ sub-pointing : tie.Need-sub-pointing Inv-loop2 μ-loop2 Inv-loop μ-loop
 sub-pointing c =
     let k = c .before in
     let s = start k in
-    goes-some _ _ (s .pre .0) (stays s) _ _ _ _ (round k .loop-test .taken) (k .number .ensures .1) (leads k) (turn k .loop2 .inv .1)
+    omega (arith, goes-some _ _ (s .pre .0) (stays s) _ _ _ _ (round k .loop-test .taken) (k .number .ensures .1) (leads k) (turn k .loop2 .inv .1))
 
 element-write-pointing : tie.Need-element-write-pointing Inv-loop2 μ-loop2 Inv-loop μ-loop
 element-write-pointing c = search needs
