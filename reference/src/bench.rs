@@ -21,6 +21,7 @@ pub const PICKS: usize = 3_000;
 pub trait Watch {
     fn picking(&mut self, _lane: &Lane, _process: usize) {}
     fn picked(&mut self, _answer: Answer) {}
+    fn relieving(&mut self, _lane: &Lane) {}
     fn relieved(&mut self, _answer: Result<Ring, Refusal>) {}
 }
 
@@ -65,6 +66,7 @@ pub fn bench_watched(
             input.advance(&mut lane, &mut cells);
         }
         if byte == RELIEF {
+            watch.relieving(&lane);
             let answer = lane.relieve();
             watch.relieved(answer);
             if let Ok(ring) = answer {

@@ -6,6 +6,7 @@ use crate::lane::Lane;
 use crate::network::{Instruction, CAPACITY};
 use crate::refusal::Refusal;
 use crate::relief::Ring;
+use crate::tails::{self, BENCH};
 use std::fmt;
 
 /// Counts over all cases.
@@ -18,7 +19,9 @@ pub struct Coverage {
     lines: [(u64, u64); 3],
     /// The same for the conditions in `proc` lines.
     conditions: [(u64, u64); 5],
-    pub picks: Picks,
+    picks: Picks,
+    /// Reliefs by what they find.
+    reliefs: [u64; BENCH.len()],
 }
 
 /// What picks and reliefs did.
@@ -104,7 +107,31 @@ impl Coverage {
         };
         let lines = named("a line", &LINES, &self.lines);
         let conditions = named("condition", &CONDITIONS, &self.conditions);
-        names_of_none([&refused[..], &lines, &conditions, &self.picks.counts()].concat())
+        let reliefs = BENCH.iter().zip(self.reliefs);
+        let reliefs: Vec<Counted> =
+            reliefs.map(|(name, count)| (name.to_string(), count)).collect();
+        let picks = self.picks.counts();
+        names_of_none([&refused[..], &lines, &conditions, &picks, &reliefs].concat())
+    }
+}
+
+impl Watch for Coverage {
+    fn picking(&mut self, lane: &Lane, process: usize) {
+        self.picks.picking(lane, process);
+    }
+
+    fn picked(&mut self, answer: Answer) {
+        self.picks.picked(answer);
+    }
+
+    fn relieving(&mut self, lane: &Lane) {
+        for (count, met) in self.reliefs.iter_mut().zip(tails::cases(lane)) {
+            *count += u64::from(met);
+        }
+    }
+
+    fn relieved(&mut self, answer: Result<Ring, Refusal>) {
+        self.picks.relieved(answer);
     }
 }
 
@@ -231,6 +258,9 @@ impl fmt::Display for Coverage {
             write!(to, "  {name}: {count}")?;
         }
         for (name, count) in SPECIAL.iter().zip(self.picks.special) {
+            write!(to, "\n{name}: {count}")?;
+        }
+        for (name, count) in BENCH.iter().zip(self.reliefs) {
             write!(to, "\n{name}: {count}")?;
         }
         writeln!(to)

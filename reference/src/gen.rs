@@ -5,7 +5,7 @@ use crate::bench::{INPUT, INPUT_RECORD, LISTING, PICKS};
 use crate::damage;
 use crate::file;
 use crate::network::{Network, OUTSIDE};
-use crate::plans::{lane_and_length, Length};
+use crate::plans::{lane_and_length, tails_and_length, Length};
 use crate::random::Random;
 use crate::schedule::RELIEF;
 
@@ -28,7 +28,10 @@ pub fn following(seed: u64) -> u64 {
 /// of those several things, so that the order of the tests shows.
 pub fn case(seed: u64) -> Case {
     let random = &mut Random::new(seed ^ 0x6C61_6E65);
-    let (network, length) = lane_and_length(random);
+    // The cases of the other seeds do not hang on those with rings and tails.
+    let tails = &mut Random::new(seed ^ 0x7461_696C);
+    let (network, length) =
+        if tails.percent(5) { tails_and_length(tails) } else { lane_and_length(random) };
     let mut case = Case {
         file: file::bytes_of(&network),
         input: input(random, &network, length),

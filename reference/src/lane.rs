@@ -105,8 +105,9 @@ impl Lane {
         self.network.code[usize::from(slot.first + self.processes[process].position)]
     }
 
-    /// What a pick of this process would wait for, if it would wait.
-    #[inline]
+    /// What a pick of this process would wait for, if it would wait. A relief asks
+    /// this of all processes in one loop, and takes the answer apart at once.
+    #[inline(always)]
     pub fn wait(&self, process: usize) -> Option<Wait> {
         if self.has_ended(process) {
             return None;
@@ -132,9 +133,14 @@ impl Lane {
     /// Whether some process would wait at a full channel.
     #[inline(always)]
     pub(crate) fn has_full_wait(&self) -> bool {
-        let full = |process| matches!(self.wait(process), Some(Wait::Full(_)));
         (0..self.network.processes.into())
-            .any(|process| self.instruction(process).op == 12 && full(process))
+            .any(|process| self.instruction(process).op == 12 && self.waits_for_room(process))
+    }
+
+    /// Seldom asked for after a round, and so kept out of the loop of a drive.
+    #[inline(never)]
+    fn waits_for_room(&self, process: usize) -> bool {
+        matches!(self.wait(process), Some(Wait::Full(_)))
     }
 
     pub fn is_sound(&self) -> bool {

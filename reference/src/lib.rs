@@ -32,6 +32,7 @@
 //! | `bursts`   | bursts for scripts, and how much of one must go in         |
 //! | `met`      | what scripts have met                                      |
 //! | `fillings` | of these, the cases of the most that channels have held    |
+//! | `tails`    | of these, the cases of rings and of tails that lead there  |
 
 pub mod bench;
 pub mod board;
@@ -59,3 +60,4 @@ pub mod replay;
 pub mod schedule;
 pub mod script;
 pub mod scripts;
+pub mod tails;

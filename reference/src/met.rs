@@ -11,7 +11,9 @@ use crate::limit::{Course, Limit};
 use crate::network::{CAPACITY, CHANNELS, OUTSIDE, PROCESSES};
 use crate::refusal::Refusal;
 use crate::relief::Ring;
+use crate::schedule::RELIEF;
 use crate::script::{Call, Line, VALUES};
+use crate::tails;
 use std::collections::BTreeMap;
 use std::fmt;
 
@@ -62,7 +64,8 @@ const TAKE: &[&str] =
 pub struct Played<'a> {
     pub text: &'a str,
     pub line: Line<'a>,
-    /// The lane before it, for a drive the cells too, and how many were lent.
+    /// The lane before it, for a run and a drive the cells too, and how many were
+    /// lent.
     pub before: &'a Lane,
     pub cells: Vec<i32>,
     pub room: usize,
@@ -157,6 +160,13 @@ impl Met {
         *self.special.entry(name).or_default() += u64::from(met);
     }
 
+    /// The same of several.
+    fn meet_all<const N: usize>(&mut self, names: [&'static str; N], met: [bool; N]) {
+        for (name, met) in names.into_iter().zip(met) {
+            self.meet(name, met);
+        }
+    }
+
     /// Cases in which two refusals could be answered.
     fn order(&mut self, played: &Played, call: &Call, sound: bool, answer: &str) {
         let absent = match *call {
@@ -219,8 +229,11 @@ impl Met {
         let first_moves = bytes.first().is_some_and(moves);
         self.meet("run: 8 though the first would move", refused && first_moves);
         self.meet("run: enlarged", played.enlarged());
-        let relief = bytes.contains(&255) && !refused;
+        let relief = bytes.contains(&RELIEF) && !refused;
         self.meet("run: relief that enlarged nothing", relief && !played.enlarged());
+        if relief {
+            self.meet_all(tails::RUN, reliefs(lane, &played.cells, bytes));
+        }
     }
 
     fn drive(&mut self, lane: &Lane, picks: u64, played: &Played, answer: &str) {
@@ -237,6 +250,8 @@ impl Met {
         self.meet("drive: ceiling with no round left", ceiling && picks - made < processes);
         let rounds = rounds(lane, &played.cells, made / processes);
         self.rounds(&rounds, answer);
+        let met = |case: usize| rounds.iter().any(|round| round.tails[case]);
+        self.meet_all(tails::DRIVE, std::array::from_fn(met));
     }
 
     /// The rounds of a drive.
@@ -432,6 +447,7 @@ impl Met {
         let found = lane.find_ring();
         if answer != "refused 15" {
             self.picks.relieved(found);
+            self.meet_all(tails::RELIEVE, tails::cases(lane));
         }
         let Ok(ring) = found else { return };
         let members = ring.members();
@@ -453,11 +469,6 @@ impl Met {
             |wait| matches!(wait, Some(Wait::Full(channel)) if capacity(*channel) == least),
         );
         self.meet("relieve: the lowest of equal ones", enlarged && equal.count() > 1);
-        let lower = |full: bool| {
-            enlarged && (0..members[0]).any(|start| full_ring(lane, start.into()) == Some(full))
-        };
-        self.meet("relieve: a lower ring at 256 passed over", lower(true));
-        self.meet("relieve: a lower ring without a full wait", lower(false));
     }
 
     /// What was not met, each by its name.
@@ -501,6 +512,8 @@ struct Round {
     beside: bool,
     /// A process moved that stands on the ring enlarged after the round before.
     ring_moved: bool,
+    /// What the relief found.
+    tails: tails::Cases,
 }
 
 /// So many rounds of a drive.
@@ -518,38 +531,32 @@ fn rounds(lane: &Lane, cells: &[i32], count: u64) -> Vec<Round> {
             waited_full |= matches!(answer, Answer::WaitingFull(_));
         }
         let moved = moves.contains(&true);
+        let tails = tails::cases(&lane);
         let relieved = lane.relieve();
         let moved_of = |ring: Ring| ring.members().iter().any(|&member| moves[usize::from(member)]);
         let beside = moved && relieved.is_ok_and(|ring| !moved_of(ring));
         let before = rounds.last().and_then(|round| round.relieved.ok());
         let ring_moved = before.is_some_and(moved_of);
-        rounds.push(Round { moved, waited_full, relieved, beside, ring_moved });
+        rounds.push(Round { moved, waited_full, relieved, beside, ring_moved, tails });
     }
     rounds
 }
 
-/// Whether the ring on which a process stands has a full wait, if it stands on
-/// one.
-fn full_ring(lane: &Lane, start: usize) -> Option<bool> {
-    let mut full = false;
-    let mut at = start;
-    for _ in 0..lane.network.processes {
-        let end = match lane.wait(at)? {
-            Wait::Empty(channel) => lane.network.records[usize::from(channel)].sender,
-            Wait::Full(channel) => {
-                full = true;
-                lane.network.records[usize::from(channel)].receiver
-            }
-        };
-        if end == OUTSIDE {
-            return None;
-        }
-        at = end.into();
-        if at == start {
-            return Some(full);
+/// What the reliefs of a run find.
+fn reliefs(lane: &Lane, cells: &[i32], bytes: &[u8]) -> tails::Cases {
+    let mut lane = lane.clone();
+    let mut cells: Cells = cells.try_into().expect("the cells of a run");
+    let mut met = tails::Cases::default();
+    for &byte in bytes {
+        if byte == RELIEF {
+            let cases = tails::cases(&lane);
+            met = std::array::from_fn(|case| met[case] | cases[case]);
+            _ = lane.relieve();
+        } else {
+            lane.step(&mut cells, byte.into());
         }
     }
-    None
+    met
 }
 
 impl fmt::Display for Met {

@@ -205,40 +205,85 @@ pub fn jam(random: &mut Random, lane: &Lane) -> Vec<Edit> {
     let capacities =
         random.one(&[[256, 256], [256, 256], [255, 256], [1, 1], [1, 2], [any, any], [any, 256]]);
     let mut processes = Vec::new();
-    let mut channels: Vec<Edit> = Vec::new();
+    let mut channels = Vec::new();
     let mut at = random.below(ends.len());
     let mut met = [false; PROCESSES];
     while !met[at] {
         met[at] = true;
-        let used = |channel: u8| {
-            let number = usize::from(channel);
-            channels.iter().any(|edit| matches!(edit, Edit::Channel(other, _) if *other == number))
-        };
-        let waits = waits(lane, at, used);
-        let wait = (!waits.is_empty()).then(|| random.one(&waits));
-        let Process { position, moves, .. } = lane.processes[at];
-        let position = wait.map_or(position, |(position, ..)| position);
-        let condition = Condition::Live;
-        processes.push(Edit::Process { number: at, position, condition, moves });
-        let Some((_, op, number)) = wait else { break };
-        let number = usize::from(number);
-        let oldest = oldest(random, lane, number);
-        let record = lane.network.records[number];
-        let (capacity, held) = if op == 12 {
-            let capacity = random.one(&capacities);
-            at = record.receiver.into();
-            (capacity, capacity)
-        } else {
-            at = record.sender.into();
-            (lane.channels[number].capacity, 0)
-        };
-        let peak = peak(random, held, capacity);
-        let channel = Channel { capacity, oldest, held, peak, closed: false };
-        channels.push(Edit::Channel(number, channel));
+        let (process, wait) = stand(random, lane, at, &capacities, &channels);
+        processes.push(process);
+        let Some((channel, other)) = wait else { break };
+        channels.push(channel);
+        at = other;
     }
     // The processes first: a live one asks nothing of its channels.
     processes.extend(channels);
     processes
+}
+
+/// Each process waits for another, where it can, but for a few that stay where they
+/// are: mostly several rings at once, with tails that lead into them, and with full
+/// waits at any capacities.
+pub fn standstill(random: &mut Random, lane: &Lane) -> Vec<Edit> {
+    let any = random.between(1, CAPACITY.into()) as u16;
+    let capacities = random.one(&[
+        [256, 256, 256, 256],
+        [256, 256, 256, 1],
+        [256, 256, 255, 255],
+        [256, 1, 2, 3],
+        [any, any, 1, 256],
+    ]);
+    let mut order: Vec<usize> = (0..lane.network.processes.into()).collect();
+    random.shuffle(&mut order);
+    let mut processes = Vec::new();
+    let mut channels = Vec::new();
+    for number in order {
+        if random.percent(10) {
+            let Process { position, moves, .. } = lane.processes[number];
+            let condition = Condition::Live;
+            processes.push(Edit::Process { number, position, condition, moves });
+        } else {
+            let (process, wait) = stand(random, lane, number, &capacities, &channels);
+            processes.push(process);
+            channels.extend(wait.map(|(channel, _)| channel));
+        }
+    }
+    processes.extend(channels);
+    processes
+}
+
+/// Lets a process live, and brings it to where it waits for another, if it can on a
+/// channel other than these. Answers the edit of the process, and where it waits
+/// that of the channel, with the other process.
+fn stand(
+    random: &mut Random,
+    lane: &Lane,
+    at: usize,
+    capacities: &[u16],
+    channels: &[Edit],
+) -> (Edit, Option<(Edit, usize)>) {
+    let used = |channel: u8| {
+        let number = usize::from(channel);
+        channels.iter().any(|edit| matches!(edit, Edit::Channel(other, _) if *other == number))
+    };
+    let waits = waits(lane, at, used);
+    let wait = (!waits.is_empty()).then(|| random.one(&waits));
+    let Process { position, moves, .. } = lane.processes[at];
+    let position = wait.map_or(position, |(position, ..)| position);
+    let process = Edit::Process { number: at, position, condition: Condition::Live, moves };
+    let Some((_, op, number)) = wait else { return (process, None) };
+    let number = usize::from(number);
+    let oldest = oldest(random, lane, number);
+    let record = lane.network.records[number];
+    let (capacity, held, other) = if op == 12 {
+        let capacity = random.one(capacities);
+        (capacity, capacity, record.receiver)
+    } else {
+        (lane.channels[number].capacity, 0, record.sender)
+    };
+    let peak = peak(random, held, capacity);
+    let channel = Channel { capacity, oldest, held, peak, closed: false };
+    (process, Some((Edit::Channel(number, channel), other.into())))
 }
 
 /// The positions at which a process can wait for another, with op and channel.

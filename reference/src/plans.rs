@@ -52,6 +52,18 @@ pub fn clocked(random: &mut Random) -> Network {
     Plan::clocked(random).network(random)
 }
 
+/// A network with rings and with tails of processes that lead into them, beside
+/// clocks.
+pub fn tails(random: &mut Random) -> Network {
+    tails_and_length(random).0
+}
+
+pub fn tails_and_length(random: &mut Random) -> (Network, Length) {
+    let plan = Plan::tails(random);
+    let length = plan.length;
+    (plan.network(random), length)
+}
+
 /// A network most of whose processes come to an end by themselves, with rings
 /// that get stuck on the way.
 pub fn ending(random: &mut Random) -> Network {
@@ -239,9 +251,7 @@ impl Plan {
         let mut order = numbers(random, plan.processes());
         let clocks = if order.len() > 2 { random.between(1, 2) } else { 1 };
         for clock in order.split_off(order.len() - clocks) {
-            let lap = vec![Turn::Work; random.below(3)];
-            let laps = random.percent(40).then(|| random.between(1, 12) as u8);
-            plan.styles[clock] = Style::Turns { before: Vec::new(), lap, laps };
+            plan.clock(random, clock);
         }
         while !order.is_empty() {
             let members = order.split_off(order.len() - random.between(1, order.len().min(3)));
@@ -252,6 +262,72 @@ impl Plan {
             }
         }
         plan
+    }
+
+    fn clock(&mut self, random: &mut Random, process: usize) {
+        let lap = vec![Turn::Work; random.below(3)];
+        let laps = random.percent(40).then(|| random.between(1, 12) as u8);
+        self.styles[process] = Style::Turns { before: Vec::new(), lap, laps };
+    }
+
+    /// Rings whose members wait for one another, mostly for ever, or fill channels up
+    /// to the largest capacity, beside clocks. The other processes wait for these or
+    /// for one another, one behind the other, and now and then for the outside.
+    fn tails(random: &mut Random) -> Plan {
+        let mut plan = Plan::with(random.between(2, PROCESSES));
+        let mut order = numbers(random, plan.processes());
+        let clocks = random.below(3).min(order.len() - 1);
+        let mut ahead = order.split_off(order.len() - clocks);
+        for &clock in &ahead {
+            plan.clock(random, clock);
+        }
+        let high = random.percent(20);
+        for _ in 0..random.between(1, 3) {
+            let most = order.len().min(5);
+            let members = order.split_off(order.len() - random.between(most.min(1), most));
+            if high && random.percent(60) {
+                plan.filling_ring(random, &members);
+                plan.length = Length::Long;
+            } else {
+                for (index, &member) in members.iter().enumerate() {
+                    plan.wait_for(random, member, members[(index + 1) % members.len()]);
+                }
+            }
+            ahead.extend(members);
+        }
+        for process in order {
+            let last = ahead[ahead.len() - 1];
+            let other = match random.below(20) {
+                0 => usize::from(OUTSIDE),
+                1..=11 => last,
+                _ => random.one(&ahead),
+            };
+            plan.wait_for(random, process, other);
+            ahead.push(process);
+        }
+        plan
+    }
+
+    /// Lets a process come to wait for another one, for room on a channel that
+    /// nobody receives from or for a message that nobody sends. Some have a third
+    /// one to wait for too.
+    fn wait_for(&mut self, random: &mut Random, process: usize, other: usize) {
+        let mut lap = vec![self.waiting_turn(random, process, other)];
+        if random.percent(25) && self.channels.len() < CHANNELS - PROCESSES {
+            let third = random.below(self.processes());
+            lap.push(self.waiting_turn(random, process, third));
+        }
+        let before = vec![Turn::Work; random.below(2)];
+        self.styles[process] = Style::Turns { before, lap, laps: None };
+    }
+
+    fn waiting_turn(&mut self, random: &mut Random, process: usize, other: usize) -> Turn {
+        let capacity = capacity(random);
+        if random.percent(55) {
+            Turn::Send(self.join(process, other, capacity))
+        } else {
+            Turn::Receive(self.join(other, process, capacity))
+        }
     }
 
     /// Lets no process take turns for ever.

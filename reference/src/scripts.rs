@@ -27,6 +27,8 @@ pub struct Scripts<'a> {
     random: Random,
     /// For the lanes at the ends of the scripts: the rest does not hang on them.
     limits: Random,
+    /// For those with rings and tails, which come before them.
+    tails: Random,
     /// Where the lane files go.
     folder: &'a Path,
     clauses: Vec<Clause>,
@@ -38,6 +40,7 @@ impl Scripts<'_> {
         Scripts {
             random: Random::new(seed),
             limits: Random::new(seed ^ 0x6C69_6D69),
+            tails: Random::new(seed ^ 0x7461_696C),
             folder,
             clauses: clauses(),
             met: Met::default(),
@@ -66,6 +69,8 @@ impl Scripts<'_> {
         };
         let file = file::bytes_of(&ending);
         std::fs::write(self.folder.join(format!("limit{number}.bin")), file)?;
+        let file = file::bytes_of(&plans::tails(&mut self.tails));
+        std::fs::write(self.folder.join(format!("tails{number}.bin")), file)?;
         let mut script = Script {
             random,
             clauses: &self.clauses,
@@ -75,6 +80,8 @@ impl Scripts<'_> {
             text: String::new(),
         };
         script.write()?;
+        script.random = &mut self.tails;
+        script.tails()?;
         script.random = &mut self.limits;
         script.limit(&ending, &input, has_other_steps)?;
         Ok(script.text)
@@ -121,9 +128,9 @@ impl<'a> Script<'a> {
     fn answer(&mut self, text: &str) -> io::Result<String> {
         let line = parse(text.as_bytes());
         let before = self.replay.state.lane.clone();
-        // What a drive met is seen by making it once more.
-        let drives = matches!(line, Line::Call(Call::Drive(_)));
-        let cells = if drives { self.replay.state.cells[..CELLS].to_vec() } else { Vec::new() };
+        // What a run or a drive met is seen by making it once more.
+        let again = matches!(line, Line::Call(Call::Run(_) | Call::Drive(_)));
+        let cells = if again { self.replay.state.cells[..CELLS].to_vec() } else { Vec::new() };
         let room = self.replay.room;
         let mut out = Vec::new();
         self.replay.play_line(text.as_bytes(), &mut out)?;
@@ -193,10 +200,7 @@ impl<'a> Script<'a> {
             52..=54 => format!("close {}", channel(random, lane, 0)),
             55..=71 => format!("{lent}take {}", channel(random, lane, 1)),
             72..=77 => format!("relieve {}", ring_buffer(random, lane)),
-            78..=88 => {
-                let bytes = pick_bytes(random, lane);
-                bytes.iter().fold("run".to_string(), |line, byte| format!("{line} {byte}"))
-            }
+            78..=88 => run_line(&pick_bytes(random, lane)),
             _ => format!("drive {}", self.picks(lane)),
         }
     }
@@ -422,6 +426,32 @@ impl<'a> Script<'a> {
         Ok(())
     }
 
+    /// A lane with rings and with tails that lead into them: its processes come to
+    /// wait by picks or are made to by hand, and relief, runs and drives follow.
+    fn tails(&mut self) -> io::Result<()> {
+        self.say(&format!("lane tails{}.bin", self.number))?;
+        for _ in 0..self.random.between(1, 2) {
+            let lane = self.lane().clone();
+            if self.random.percent(65) {
+                let edits = odd::standstill(self.random, &lane);
+                self.edit_all(&edits)?;
+            } else {
+                let rounds = self.random.between(2, 10);
+                self.say(&run_line(&rounds_of(&lane, rounds, false)))?;
+            }
+            for _ in 0..self.random.between(1, 3) {
+                let lane = self.lane().clone();
+                let line = match self.random.below(5) {
+                    0 => run_line(&rounds_of(&lane, self.random.between(1, 3), true)),
+                    1 => format!("drive {}", self.picks(&lane)),
+                    _ => format!("relieve {}", ring_buffer(self.random, &lane)),
+                };
+                self.say(&line)?;
+            }
+        }
+        Ok(())
+    }
+
     /// A fresh lane with all input fed and closed, in some scripts after other
     /// steps too, as many picks as a drive of it can need or more, and then a pick
     /// of each process.
@@ -622,6 +652,16 @@ fn ring_buffer(random: &mut Random, lane: &Lane) -> usize {
         }
         Err(_) => random.one(&[0, any]),
     }
+}
+
+/// All processes in turn, so many times, each time after a relief or not.
+fn rounds_of(lane: &Lane, rounds: usize, relief: bool) -> Vec<u8> {
+    let round = relief.then_some(RELIEF).into_iter().chain(0..lane.network.processes);
+    (0..rounds).flat_map(|_| round.clone()).collect()
+}
+
+fn run_line(bytes: &[u8]) -> String {
+    bytes.iter().fold("run".to_string(), |line, byte| format!("{line} {byte}"))
 }
 
 fn pick_bytes(random: &mut Random, lane: &Lane) -> Vec<u8> {

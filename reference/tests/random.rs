@@ -39,7 +39,7 @@ fn lanes_meet_every_case() {
         let case = case(seed);
         let mut listing = vec![0; case.listing];
         let answer =
-            bench_watched(&case.file, &case.input, &case.picks, &mut listing, &mut coverage.picks);
+            bench_watched(&case.file, &case.input, &case.picks, &mut listing, &mut coverage);
         coverage.count(answer.map(|length| &listing[..length]));
         *answers.entry(answer.err().map(|refusal| refusal.number())).or_insert(0) += 1;
         assert!(answer.is_ok() || case.listing < LISTING || !listing.iter().any(|&byte| byte != 0));

@@ -107,13 +107,8 @@ fn same_bench(case: &Case, coverage: &mut Coverage, start: u8) -> Result<(), Str
     let pattern: Vec<u8> =
         (0..case.listing + 2 * MARGIN).map(|at| (at as u8).wrapping_mul(167) ^ start).collect();
     let mut expected = pattern.clone();
-    let mine = bench_watched(
-        &case.file,
-        &case.input,
-        &case.picks,
-        &mut expected[lent.clone()],
-        &mut coverage.picks,
-    );
+    let mine =
+        bench_watched(&case.file, &case.input, &case.picks, &mut expected[lent.clone()], coverage);
     let answer = match mine {
         Ok(length) => length as i32,
         Err(refusal) => -i32::from(refusal.number()),
