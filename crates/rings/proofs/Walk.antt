@@ -3,7 +3,7 @@
 use mathlib.Core.Path.{_≡_, refl, sym, ap, _∙_}
 use mathlib.Core.Bool.{Bool, true, false, cond, not, _&&_, _||_}
 use mathlib.Core.List.{List, _∷_}
-use Prim.Native.Nat.{ℕ, zero, suc, _+_, _-_, _≤_, _<_}
+use Prim.Native.Nat.{ℕ, _+_, _-_, _≤_, _<_}
 use native.Mathlib.Decide.{ℕ-discrete, decLt}
 use native.Mathlib.Numerals.{add-one}
 use native.Mathlib.Omega.{arith}
@@ -18,8 +18,8 @@ use Rattle.rings.proofs.First as first
 use Rattle.rings.proofs.Pointings.{chain-more, Stays}
 use Rattle.rings.proofs.Circles.{RingOf, on}
 
--- ---- a walk from start, on a ring, that has passed n processes, which stand in ring, and is at one that it has not passed; of the full waits of start and
--- those passed the one to relieve has this capacity and this channel
+-- ---- a walk from start, on a ring, that has passed n processes, which stand in ring, and is at one that it has not passed; of the full waits of those
+-- passed and of that one the one to relieve has this capacity and this channel
 pub record Trail (f full chan : ℕ → ℕ) (P : ℕ) (ring : List ℕ) (start at n capacity channel : ℕ) : Type 0 where
   pub begun : start < P
   pub around : RingOf f P start (ringLength f P start)
@@ -28,10 +28,19 @@ pub record Trail (f full chan : ℕ → ℕ) (P : ℕ) (ring : List ℕ) (start 
   pub inside : at < P
   pub size : length ring ≡ 16
   pub listed : take n ring ≡ chain f n start
-  pub room : capacity ≡ full (least full chan start (chain f n start))
-  pub number : channel ≡ chan (least full chan start (chain f n start))
+  pub room : capacity ≡ full (least full chan start (chain f (n + 1) start))
+  pub number : channel ≡ chan (least full chan start (chain f (n + 1) start))
+
+-- a choice of two values is the value of the choice
+value-of : (g : ℕ → ℕ) (b : Bool) (p q : ℕ) → cond b (g p) (g q) ≡ g (cond b p q)
+value-of g true p q = refl
+value-of g false p q = refl
 
 module _ (f full chan : ℕ → ℕ) (P : ℕ) (small : P ≤ 16) where
+  either-way : (b : Bool) (p : ℕ) → p ≡ cond b p p
+  either-way true p = refl
+  either-way false p = refl
+
   pub trail-start : (ring : List ℕ) (start : ℕ) → start < P → RingOf f P start (ringLength f P start) → length ring ≡ 16
       → Trail f full chan P ring start start 0 (full start) (chan start)
   unfolding iter chain
@@ -44,17 +53,16 @@ module _ (f full chan : ℕ → ℕ) (P : ℕ) (small : P ≤ 16) where
         inside = h;
         size = e;
         listed = refl;
-        room = refl;
-        number = refl;
+        room = ap full (either-way (lesser (full start) (chan start) (full start) (chan start)) start);
+        number = ap chan (either-way (lesser (full start) (chan start) (full start) (chan start)) start);
       }
 
   module _ (ring : List ℕ) (start at n capacity channel : ℕ) (t : Trail f full chan P ring start at n capacity channel) where
     pub trail-low : n < 16
     trail-low = omega (arith, t .short, t .around .bounded)
 
-    -- one process more: the walk led to `to`; of those passed this is the full wait to relieve
-    module _ (to capacity′ channel′ : ℕ) (et : f at ≡ to) (ec : capacity′ ≡ cond (lesser (full at) (chan at) capacity channel) (full at) capacity)
-        (en : channel′ ≡ cond (lesser (full at) (chan at) capacity channel) (chan at) channel) where
+    -- the walk led on to `to`
+    module _ (to : ℕ) (et : f at ≡ to) where
       steps : iter f (n + 1) start ≡ to
       unfolding iter
       steps = rw (add-one, ← t .there) et
@@ -62,45 +70,46 @@ module _ (f full chan : ℕ → ℕ) (P : ℕ) (small : P ≤ 16) where
       wrote : take (n + 1) (set ring n at) ≡ chain f (n + 1) start
       wrote = rw (add-one, take-suc-set ring n at (omega (arith, t .size, trail-low)), t .listed, chain-more f n start, t .there)
 
-      -- a choice of two waits is the wait of the choice
-      chosen : (g : ℕ → ℕ) (b : Bool) (p q : ℕ) → cond b (g p) (g q) ≡ g (cond b p q)
-      chosen g true p q = refl
-      chosen g false p q = refl
+      -- which is inside
+      pub trail-inside : Stays f P → to < P
+      trail-inside stays =
+          omega (arith, steps, on f P stays start (n + 1) (ringLength f P start) (omega (arith, t .short)) (omega (arith, t .begun, t .around .closes)))
 
-      best : least full chan start (chain f (n + 1) start)
-          ≡ cond (lesser (full at) (chan at) capacity channel) at (least full chan start (chain f n start))
-      best =
-          rw (add-one, chain-more f n start, least-more full chan (chain f n start) start (iter f n start), ← t .there, ← t .room, ← t .number)
+      -- it is not back yet; of all these full waits this is the one to relieve
+      module _ (capacity′ channel′ : ℕ) (ec : capacity′ ≡ cond (lesser (full to) (chan to) capacity channel) (full to) capacity)
+          (en : channel′ ≡ cond (lesser (full to) (chan to) capacity channel) (chan to) channel) where
+        best : least full chan start (chain f (n + 1 + 1) start)
+            ≡ cond (lesser (full to) (chan to) capacity channel) to (least full chan start (chain f (n + 1) start))
+        best =
+            rw (add-one (n + 1), chain-more f (n + 1) start, least-more full chan (chain f (n + 1) start) start (iter f (n + 1) start), steps, ← t .room, ← t .number)
 
-      room′ : capacity′ ≡ full (least full chan start (chain f (n + 1) start))
-      room′ =
-          ec ∙ ap (cond (lesser (full at) (chan at) capacity channel) (full at)) (t .room)
-          ∙ chosen full (lesser (full at) (chan at) capacity channel) at (least full chan start (chain f n start)) ∙ ap full (sym best)
+        room′ : capacity′ ≡ full (least full chan start (chain f (n + 1 + 1) start))
+        room′ =
+            ec ∙ ap (cond (lesser (full to) (chan to) capacity channel) (full to)) (t .room)
+            ∙ value-of full (lesser (full to) (chan to) capacity channel) to (least full chan start (chain f (n + 1) start)) ∙ ap full (sym best)
 
-      number′ : channel′ ≡ chan (least full chan start (chain f (n + 1) start))
-      number′ =
-          en ∙ ap (cond (lesser (full at) (chan at) capacity channel) (chan at)) (t .number)
-          ∙ chosen chan (lesser (full at) (chan at) capacity channel) at (least full chan start (chain f n start)) ∙ ap chan (sym best)
+        number′ : channel′ ≡ chan (least full chan start (chain f (n + 1 + 1) start))
+        number′ =
+            en ∙ ap (cond (lesser (full to) (chan to) capacity channel) (chan to)) (t .number)
+            ∙ value-of chan (lesser (full to) (chan to) capacity channel) to (least full chan start (chain f (n + 1) start)) ∙ ap chan (sym best)
 
-      -- it is not back yet
-      pub trail-step : Stays f P → (to ≡ start → ⊥) → Trail f full chan P (set ring n at) start to (n + 1) capacity′ channel′
-      trail-step stays ne =
-          record {
-            begun = t .begun;
-            around = t .around;
-            short = on-more (ℕ-discrete (n + 1) (ringLength f P start));
-            there = sym steps;
-            inside =
-                omega (arith, steps, on f P stays start (n + 1) (ringLength f P start) (omega (arith, t .short)) (omega (arith, t .begun, t .around .closes)));
-            size = length-set ring n at ∙ t .size;
-            listed = wrote;
-            room = room′;
-            number = number′;
-          }
-        where
-          on-more : Dec (n + 1 ≡ ringLength f P start) → n + 1 < ringLength f P start
-          on-more (yes e) = absurd (ne (sym steps ∙ ap (λ (k : ℕ). iter f k start) e ∙ t .around .closes))
-          on-more (no e) = omega (arith, t .short)
+        pub trail-step : Stays f P → (to ≡ start → ⊥) → Trail f full chan P (set ring n at) start to (n + 1) capacity′ channel′
+        trail-step stays ne =
+            record {
+              begun = t .begun;
+              around = t .around;
+              short = on-more (ℕ-discrete (n + 1) (ringLength f P start));
+              there = sym steps;
+              inside = trail-inside stays;
+              size = length-set ring n at ∙ t .size;
+              listed = wrote;
+              room = room′;
+              number = number′;
+            }
+          where
+            on-more : Dec (n + 1 ≡ ringLength f P start) → n + 1 < ringLength f P start
+            on-more (yes e) = absurd (ne (sym steps ∙ ap (λ (k : ℕ). iter f k start) e ∙ t .around .closes))
+            on-more (no e) = omega (arith, t .short)
 
       -- it is back: the ring, and of its full waits the one to relieve
       module _ (e : to ≡ start) where
@@ -114,17 +123,16 @@ module _ (f full chan : ℕ → ℕ) (P : ℕ) (small : P ≤ 16) where
         pub trail-ring : ringOf f P start ≡ take (n + 1) (set ring n at)
         trail-ring = ap (λ (k : ℕ). chain f k start) closed ∙ sym wrote
 
-        pub trail-grows : chan (least full chan start (ringOf f P start)) ≡ channel′
-        trail-grows = ap (λ (k : ℕ). chan (least full chan start (chain f k start))) closed ∙ sym number′
+        pub trail-grows : chan (least full chan start (ringOf f P start)) ≡ channel
+        trail-grows = ap (λ (k : ℕ). chan (least full chan start (chain f k start))) closed ∙ sym (t .number)
 
-        pub trail-below : (limit : ℕ) → onRingBelow f full P limit start ≡ (not (eqb capacity′ 0) && ltb capacity′ limit)
+        pub trail-below : (limit : ℕ) → onRingBelow f full P limit start ≡ (not (eqb capacity 0) && ltb capacity limit)
         unfolding chain
         trail-below limit =
             let c : ringOf f P start ≡ start ∷ chain f n (f start) = ap (λ (k : ℕ). chain f k start) (closed ∙ add-one n) in
-            let r : full (least full chan start (start ∷ chain f n (f start))) ≡ capacity′ =
-            ap (λ (l : List ℕ). full (least full chan start l)) (sym c) ∙ ap (λ (k : ℕ). full (least full chan start (chain f k start))) closed ∙ sym room′ in
-            ap (someBelow full limit) c ∙ some-least full limit chan (chain f n (f start)) start
-            ∙ ap (λ (k : ℕ). not (eqb k 0) && ltb k limit) r
+            let r : full (least full chan start (start ∷ chain f n (f start))) ≡ capacity =
+            ap (λ (l : List ℕ). full (least full chan start l)) (sym c) ∙ ap (λ (k : ℕ). full (least full chan start (chain f k start))) closed ∙ sym (t .room) in
+            ap (someBelow full limit) c ∙ some-least full limit chan (chain f n (f start)) start ∙ ap (λ (k : ℕ). not (eqb k 0) && ltb k limit) r
 
 -- no walk led back: no ring
 pub off-ring : (f full : ℕ → ℕ) (P limit start : ℕ) → ringLength f P start ≡ 0 → onRingBelow f full P limit start ≡ false

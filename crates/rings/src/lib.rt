@@ -82,10 +82,6 @@ fn first_ring(
         loop {
             ring[n] = at as u8;
             n += 1;
-            if lesser(full[at], channel[at], least, grown) {
-                least = full[at];
-                grown = channel[at];
-            }
             at = base::wide(points[at]);
             if at == start {
                 if below(least, 256) {
@@ -95,6 +91,10 @@ fn first_ring(
                 }
                 ceiling = either(ceiling, below(least, 257));
                 break;
+            }
+            if lesser(full[at], channel[at], least, grown) {
+                least = full[at];
+                grown = channel[at];
             }
         }
         start += 1;

@@ -2,8 +2,7 @@
 -- whether one is on a ring with any; a process that was stripped is on none. The inner loop's: the walk so far, which began on a ring.
 -- Assumes nothing.
 use mathlib.Core.Path.{_≡_, refl, sym, ap, ap₂, _∙_}
-use mathlib.Core.Logic.{⊎-elim}
-use mathlib.Core.Bool.{Bool, true, false, cond, _||_}
+use mathlib.Core.Bool.{Bool, true, false, _||_}
 use mathlib.Core.List.{List}
 use Prim.Native.Nat.{ℕ, _+_, _-_, _<_}
 use native.Mathlib.Omega.{arith}
@@ -17,7 +16,7 @@ use Rattle.rings.specs.Arrays.{pointsIn, numberIn}
 use Rattle.rings.proofs.Pointings.{Stays, points-at, points-stay}
 use Rattle.rings.proofs.Circles.{RingOf, on-ring}
 use Rattle.rings.proofs.Stripping.{left-exactly, stripped-length}
-use Rattle.rings.proofs.Walk.{Trail, trail-start, trail-low, trail-step, trail-ring, trail-grows, trail-below, Passed, passed-none, passed-more, passed-off, search-found, search-none}
+use Rattle.rings.proofs.Walk.{Trail, trail-start, trail-low, trail-inside, trail-step, trail-ring, trail-grows, trail-below, Passed, passed-none, passed-more, passed-off, search-found, search-none}
 use Rattle.rings.proofs.first_ring.Statement.{statement}
 use Rattle.rings.proofs.first_ring.Tie as tie
 
@@ -62,36 +61,34 @@ its-ring c = on-ring _ _ (stays (c .before .before)) _ (left-exactly _ _ (stays 
 abbrev Step : Type 0
 Step = tie.After-wide Inv-loop μ-loop Inv-search μ-search
 
-abbrev looked : Step → tie.After-lesser Inv-loop μ-loop Inv-search μ-search
-looked c = c .before .before .before
-
 abbrev at-loop : Step → tie.At-loop Inv-loop μ-loop Inv-search μ-search
-at-loop c = looked c .before .before .before
-
-abbrev begun : Step → tie.Else1 Inv-loop μ-loop Inv-search μ-search
-begun c = at-loop c .before .before .before
+at-loop c = c .before .before
 
 abbrev turn : Step → Turn
-turn c = begun c .before .before
+turn c = at-loop c .before .before .before .before .before
 
 -- where the pointing of the process at hand leads
 leads : (c : Step) → pointings (turn c) (at-loop c .loop .at) ≡ c .wide .result
 leads c = points-at _ _ _ (at-loop c .loop .inv .2 .inside) ∙ sym (c .wide .ensures)
 
--- of its full wait and the one chosen before it the one to relieve
-abbrev sooner : Step → Bool
-sooner c =
-    lesser (numberIn (entry (turn c) .args .full .now) (at-loop c .loop .at)) (numberIn (entry (turn c) .args .channel .now) (at-loop c .loop .at)) (at-loop c .loop .least) (at-loop c .loop .grown)
+inside : (c : Step) → c .wide .result < 16
+inside c =
+    let small = entry (turn c) .pre .0 in
+    omega (arith, small, trail-inside _ _ _ _ small _ _ _ _ _ _ (at-loop c .loop .inv .2) _ (leads c) (stays (turn c)))
 
-chosen : (c : Step)
-    → (c .before .before .if2 .least ≡ cond (sooner c) (numberIn (entry (turn c) .args .full .now) (at-loop c .loop .at)) (at-loop c .loop .least))
-    × (c .before .before .if2 .grown ≡ cond (sooner c) (numberIn (entry (turn c) .args .channel .now) (at-loop c .loop .at)) (at-loop c .loop .grown))
-chosen c =
-    let e = looked c .lesser .ensures in
-    ⊎-elim
-    (λ v. let t : sooner c ≡ true = sym e ∙ v .0 .taken in rw t (v .3, v .4))
-    (λ v. let t : sooner c ≡ false = sym e ∙ v .0 .left in rw t (v .1, v .2))
-    (c .before .before .if2 .came)
+-- whether its full wait is to be relieved before the one chosen so far
+abbrev Looked : Type 0
+Looked = tie.After-lesser Inv-loop μ-loop Inv-search μ-search
+
+abbrev step : Looked → Step
+step c = c .before .before .before .before
+
+abbrev sooner : Looked → Bool
+sooner c =
+    lesser (numberIn (entry (turn (step c)) .args .full .now) (step c .wide .result)) (numberIn (entry (turn (step c)) .args .channel .now) (step c .wide .result)) (at-loop (step c) .loop .least) (at-loop (step c) .loop .grown)
+
+sooner-is : (c : Looked) → sooner c ≡ c .lesser .result
+sooner-is c = sym (c .lesser .ensures)
 
 search-holds : tie.Need-search-holds Inv-loop μ-loop Inv-search μ-search
 search-holds c = (refl, passed-none _ _ _ _ refl)
@@ -136,27 +133,6 @@ array-write-ring c = search needs
 add-n : tie.Need-add-n Inv-loop μ-loop Inv-search μ-search
 add-n c = search needs
 
-mul-lesser : tie.Need-mul-lesser Inv-loop μ-loop Inv-search μ-search
-mul-lesser c = search needs
-
-element-copy-out-lesser : tie.Need-element-copy-out-lesser Inv-loop μ-loop Inv-search μ-search
-element-copy-out-lesser c = search needs
-
-element-copy-out-lesser-2 : tie.Need-element-copy-out-lesser-2 Inv-loop μ-loop Inv-search μ-search
-element-copy-out-lesser-2 c = search needs
-
-lesser-requires : tie.Need-lesser-requires Inv-loop μ-loop Inv-search μ-search
-lesser-requires c κs = search needs
-
-mul-least-2 : tie.Need-mul-least-2 Inv-loop μ-loop Inv-search μ-search
-mul-least-2 c = search needs
-
-element-copy-out-least-2 : tie.Need-element-copy-out-least-2 Inv-loop μ-loop Inv-search μ-search
-element-copy-out-least-2 c = search needs
-
-element-copy-out-grown-2 : tie.Need-element-copy-out-grown-2 Inv-loop μ-loop Inv-search μ-search
-element-copy-out-grown-2 c = search needs
-
 element-copy-out-wide : tie.Need-element-copy-out-wide Inv-loop μ-loop Inv-search μ-search
 element-copy-out-wide c = search needs
 
@@ -175,16 +151,53 @@ below-requires-2 c κs = search needs
 either-requires : tie.Need-either-requires Inv-loop μ-loop Inv-search μ-search
 either-requires c κs = search needs
 
+mul-lesser : tie.Need-mul-lesser Inv-loop μ-loop Inv-search μ-search
+mul-lesser c = omega (arith, inside (c .before))
+
+element-copy-out-lesser : tie.Need-element-copy-out-lesser Inv-loop μ-loop Inv-search μ-search
+element-copy-out-lesser c = inside (c .before)
+
+element-copy-out-lesser-2 : tie.Need-element-copy-out-lesser-2 Inv-loop μ-loop Inv-search μ-search
+element-copy-out-lesser-2 c = inside (c .before .before)
+
+lesser-requires : tie.Need-lesser-requires Inv-loop μ-loop Inv-search μ-search
+lesser-requires c κs = search needs
+
+mul-least-2 : tie.Need-mul-least-2 Inv-loop μ-loop Inv-search μ-search
+mul-least-2 c = omega (arith, inside (step (c .before)))
+
+element-copy-out-least-2 : tie.Need-element-copy-out-least-2 Inv-loop μ-loop Inv-search μ-search
+element-copy-out-least-2 c = inside (step (c .before))
+
+element-copy-out-grown-2 : tie.Need-element-copy-out-grown-2 Inv-loop μ-loop Inv-search μ-search
+element-copy-out-grown-2 c = inside (step (c .before .before))
+
 loop-less : tie.Need-loop-less Inv-loop μ-loop Inv-search μ-search
 loop-less c = search needs
 
 loop-again : tie.Need-loop-again Inv-loop μ-loop Inv-search μ-search
 loop-again c =
-    let k = c .before in
-    let l = at-loop k .loop .inv in (
+    let a = c .before .before .before in
+    let k = step a in
+    let l = at-loop k .loop .inv in
+    let b : sooner a ≡ true = sooner-is a ∙ c .before .before .if4 .taken in (
       l .0,
       l .1,
-      trail-step _ _ _ _ (entry (turn k) .pre .0) _ _ _ _ _ _ (l .2) _ _ _ (leads k) (chosen k .0) (chosen k .1) (stays (turn k)) (c .if3 .left),
+      trail-step _ _ _ _ (entry (turn k) .pre .0) _ _ _ _ _ _ (l .2) _ (leads k) _ _ (rw b) (rw b) (stays (turn k)) (a .before .before .before .if2 .left),
+    )
+
+loop-less-2 : tie.Need-loop-less-2 Inv-loop μ-loop Inv-search μ-search
+loop-less-2 c = search needs
+
+loop-again-2 : tie.Need-loop-again-2 Inv-loop μ-loop Inv-search μ-search
+loop-again-2 c =
+    let a = c .before in
+    let k = step a in
+    let l = at-loop k .loop .inv in
+    let b : sooner a ≡ false = sooner-is a ∙ c .if4 .left in (
+      l .0,
+      l .1,
+      trail-step _ _ _ _ (entry (turn k) .pre .0) _ _ _ _ _ _ (l .2) _ (leads k) _ _ (rw b) (rw b) (stays (turn k)) (a .before .before .before .if2 .left),
     )
 
 add-start-2 : tie.Need-add-start-2 Inv-loop μ-loop Inv-search μ-search
@@ -199,10 +212,11 @@ search-again-2 c =
     let k = b .before .before in
     let l = at-loop k .loop .inv in
     let t = turn k in
-    let r = trail-below _ _ _ _ (entry t .pre .0) _ _ _ _ _ _ (l .2) _ _ _ (leads k) (chosen k .0) (chosen k .1) (b .before .if3 .taken) in (
+    let r = trail-below _ _ _ _ (entry t .pre .0) _ _ _ _ _ _ (l .2) _ (leads k) (b .before .if2 .taken) in (
       l .0,
-      passed-more _ _ _ _ _ _ (t .before .search .inv .1) (t .search-test .taken) _ _ (length-set (at-loop k .loop .ring) (at-loop k .loop .n) (at-loop k .loop .at) ∙ l .2 .size)
-          (r 256 ∙ sym (b .below .ensures) ∙ c .before .before .if4 .left)
+      passed-more _ _ _ _ _ _ (t .before .search .inv .1) (t .search-test .taken) _ _
+          (length-set (at-loop k .loop .ring) (at-loop k .loop .n) (at-loop k .loop .at) ∙ l .2 .size)
+          (r 256 ∙ sym (b .below .ensures) ∙ c .before .before .if3 .left)
           (c .either .ensures ∙ ap₂ _||_ (l .1) (c .before .below2 .ensures ∙ sym (r 257))),
     )
 
@@ -216,13 +230,13 @@ returns-2 c =
     let l = at-loop k .loop in
     let t = turn k in
     let small = entry t .pre .0 in
-    let back = b .before .if3 .taken in
-    let r = trail-below _ _ _ _ small _ _ _ _ _ _ (l .inv .2) _ _ _ (leads k) (chosen k .0) (chosen k .1) back in (
+    let back = b .before .if2 .taken in
+    let r = trail-below _ _ _ _ small _ _ _ _ _ _ (l .inv .2) _ (leads k) back in (
       rw (
         ne-eqb (l .n + 1) 0 (λ e. omega arith),
-        search-found _ _ _ _ _ _ (t .before .search .inv .1) (t .search-test .taken) _ (r 256 ∙ sym (b .below .ensures) ∙ c .before .if4 .taken),
-        trail-grows _ _ _ _ small _ _ _ _ _ _ (l .inv .2) _ _ _ (leads k) (chosen k .0) (chosen k .1) back,
-        trail-ring _ _ _ _ small _ _ _ _ _ _ (l .inv .2) _ _ _ (leads k) (chosen k .0) (chosen k .1) back,
+        search-found _ _ _ _ _ _ (t .before .search .inv .1) (t .search-test .taken) _ (r 256 ∙ sym (b .below .ensures) ∙ c .before .if3 .taken),
+        trail-grows _ _ _ _ small _ _ _ _ _ _ (l .inv .2) _ (leads k) back,
+        trail-ring _ _ _ _ small _ _ _ _ _ _ (l .inv .2) _ (leads k) back,
         c .wide2 .ensures,
       ),
       omega (arith, trail-low _ _ _ _ small _ _ _ _ _ _ (l .inv .2)),
@@ -248,6 +262,12 @@ first-ring-spec =
     cast-ring
     array-write-ring
     add-n
+    element-copy-out-wide
+    wide-requires
+    below-requires
+    wide-requires-2
+    below-requires-2
+    either-requires
     mul-lesser
     element-copy-out-lesser
     element-copy-out-lesser-2
@@ -255,14 +275,10 @@ first-ring-spec =
     mul-least-2
     element-copy-out-least-2
     element-copy-out-grown-2
-    element-copy-out-wide
-    wide-requires
-    below-requires
-    wide-requires-2
-    below-requires-2
-    either-requires
     loop-less
     loop-again
+    loop-less-2
+    loop-again-2
     add-start-2
     search-less-2
     search-again-2

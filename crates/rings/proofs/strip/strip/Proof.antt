@@ -1,13 +1,11 @@
 -- `rings::strip::strip` meets its contract. The outer loop's invariant: of the processes passed those that are left are pointed to. The inner one's: but for
 -- the one that goes next. Its measure: how many are pointed to.
 -- Assumes nothing.
-use mathlib.Core.Path.{_≡_, sym, ap, _∙_}
+use mathlib.Core.Path.{_≡_, sym, _∙_}
 use mathlib.Core.Logic.{⊎-elim}
-use mathlib.Core.List.{List}
-use Prim.Native.Nat.{ℕ, _-_, _<_}
+use Prim.Native.Nat.{_-_, _<_}
 use native.Mathlib.Omega.{arith}
 use borrow.Author.Needs.{needs}
-use lib.ListN.{getD}
 use Rattle.rings.specs.Arrays.{pointsIn}
 use Rattle.rings.proofs.Pointings.{Stays, points-at, points-stay}
 use Rattle.rings.proofs.Strips.{Stripping, Goes, pointedTo, strip-start, strip-past, strip-end, going-start, goes-some, goes-later, goes-pointed, goes-on, goes-less}
