@@ -8,4 +8,5 @@ pub mod Rule
 pub mod Tally
 pub mod Stripping
 pub mod Strips
+pub mod Witness
 pub mod Walk

@@ -27,8 +27,8 @@ fn count_pointers(points: &[u8; 16], count: usize, pointing: &mut [u8; 256])
     }
 }
 
-// Strips: from how many processes point to each to how many of those left do. A process that nobody left points to goes. The one that it pointed to
-// goes next where nobody else left points to that one, and it was passed before; where it was not, its turn comes.
+// Takes away every process that nobody left points to, again and again: from how many processes point to each to how many of those left do. A process
+// goes at its turn, where nobody left points to it; after it the one that it pointed to, where nobody else left points to that one and its turn is past.
 fn strip(points: &[u8; 16], count: usize, pointing: &mut [u8; 256])
     requires { ⌜ (count ≤ 16) × (now pointing ≡ table 256 (pointers (pointsIn (now points) count) count (leftAfter (pointsIn (now points) count) count 0))) ⌝ }
     ensures { λ u. ⌜ now (pointing .exit) ≡ table 256 (pointers (pointsIn (now (points .entry)) count) count (leftOf (pointsIn (now (points .entry)) count) count)) ⌝ }
