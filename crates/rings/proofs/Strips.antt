@@ -49,22 +49,22 @@ module _ (f : ℕ → ℕ) (P : ℕ) (numbers : List ℕ) (n : ℕ) (t : Counted
       t .says q l ∙ ap (tally (λ p. eqb (f p) q)) (omega (arith, t .within))
       ∙ tally-same (λ p. eqb (f p) q) (λ p. ltb p P && eqb (f p) q) P (λ k m. rw (lt-ltb k P m)))
 
--- ---- stripping: those before start were looked at
-pub record Strip (f : ℕ → ℕ) (P : ℕ) (numbers : List ℕ) (start : ℕ) (left : ℕ → Bool) : Type 0 where
+-- ---- stripping: who is left where those from n on were not looked at yet, and the numbers that go with it
+pub record Left (f : ℕ → ℕ) (P : ℕ) (numbers : List ℕ) (n : ℕ) (left : ℕ → Bool) : Type 0 where
   pub size : length numbers ≡ 256
   pub counted : (q : ℕ) → q < 256 → getD numbers q 0 ≡ pointers f P left q
   pub rings : (p : ℕ) → OnRing f P p → left p ≡ true
-  pub later : (p : ℕ) → start ≤ p → p < P → left p ≡ true
+  pub later : (p : ℕ) → n ≤ p → p < P → left p ≡ true
   pub stripped : (p : ℕ) → p < P → left p ≡ false → getD numbers p 0 ≡ 0
+
+-- those before start were looked at, and each of them that is left is pointed to
+pub record Strip (f : ℕ → ℕ) (P : ℕ) (numbers : List ℕ) (start : ℕ) (left : ℕ → Bool) : Type 0 where
+  pub has : Left f P numbers start left
   pub kept : (p : ℕ) → p < start → left p ≡ true → getD numbers p 0 ≡ 0 → ⊥
 
--- process at goes next, which is start or was looked at before
+-- start too, but for process at, which goes next
 pub record Going (f : ℕ → ℕ) (P : ℕ) (numbers : List ℕ) (start at : ℕ) (left : ℕ → Bool) : Type 0 where
-  pub size : length numbers ≡ 256
-  pub counted : (q : ℕ) → q < 256 → getD numbers q 0 ≡ pointers f P left q
-  pub rings : (p : ℕ) → OnRing f P p → left p ≡ true
-  pub later : (p : ℕ) → start < p → p < P → left p ≡ true
-  pub stripped : (p : ℕ) → p < P → left p ≡ false → getD numbers p 0 ≡ 0
+  pub has : Left f P numbers (start + 1) left
   pub kept : (p : ℕ) → p ≤ start → (p ≡ at → ⊥) → left p ≡ true → getD numbers p 0 ≡ 0 → ⊥
   pub below : at ≤ start
   pub stood : left at ≡ true
@@ -89,29 +89,25 @@ module _ (f : ℕ → ℕ) (P : ℕ) (small : P ≤ 16) (stays : Stays f P) wher
   strip-start numbers e = (
     leftAfter f P 0,
     record {
-      size = ap length e ∙ length-values (pointers f P (leftAfter f P 0)) 256 0;
-      counted = λ q l. ap (λ (ns : List ℕ). getD ns q 0) e ∙ table-at (pointers f P (leftAfter f P 0)) 256 q 0 l;
-      rings = λ p o. all p (o .0);
-      later = λ p l h. all p h;
-      stripped = λ p h z. absurd (true≢false (sym (all p h) ∙ z));
+      has = record {
+        size = ap length e ∙ length-values (pointers f P (leftAfter f P 0)) 256 0;
+        counted = λ q l. ap (λ (ns : List ℕ). getD ns q 0) e ∙ table-at (pointers f P (leftAfter f P 0)) 256 q 0 l;
+        rings = λ p o. all p (o .0);
+        later = λ p l h. all p h;
+        stripped = λ p h z. absurd (true≢false (sym (all p h) ∙ z));
+      };
       kept = λ p l y z. omega arith;
     },
   )
 
   module _ (numbers : List ℕ) (start : ℕ) (more : start < P) where
+    one-on : (left : ℕ → Bool) → Left f P numbers start left → Left f P numbers (start + 1) left
+    one-on left s =
+        record { size = s .size; counted = s .counted; rings = s .rings; later = λ p l h. s .later p (omega arith) h; stripped = s .stripped }
+
     -- process start is pointed to, and stays
     pub strip-past : Stripping f P numbers start → (getD numbers start 0 ≡ 0 → ⊥) → Stripping f P numbers (start + 1)
-    strip-past (left, s) n = (
-      left,
-      record {
-        size = s .size;
-        counted = s .counted;
-        rings = s .rings;
-        later = λ p l h. s .later p (omega arith) h;
-        stripped = s .stripped;
-        kept = λ p l y z. go p l y z (ℕ-discrete p start);
-      },
-    )
+    strip-past (left, s) n = (left, record { has = one-on left (s .has); kept = λ p l y z. go p l y z (ℕ-discrete p start) })
       where
         go : (p : ℕ) → p < start + 1 → left p ≡ true → getD numbers p 0 ≡ 0 → Dec (p ≡ start) → ⊥
         go p l y z (yes d) = n (ap (λ (k : ℕ). getD numbers k 0) (sym d) ∙ z)
@@ -122,14 +118,10 @@ module _ (f : ℕ → ℕ) (P : ℕ) (small : P ≤ 16) (stays : Stays f P) wher
     going-start (left, s) z = (
       left,
       record {
-        size = s .size;
-        counted = s .counted;
-        rings = s .rings;
-        later = λ p l h. s .later p (omega arith) h;
-        stripped = s .stripped;
+        has = one-on left (s .has);
         kept = λ p l d. s .kept p (omega arith);
         below = omega arith;
-        stood = s .later start (omega arith) more;
+        stood = s .has .later start (omega arith) more;
         none = z;
       },
     )
@@ -175,7 +167,7 @@ module _ (f : ℕ → ℕ) (P : ℕ) (small : P ≤ 16) (stays : Stays f P) wher
           go k (no d) = ap (λ (b : Bool). b && eqb (f k) q) (without-other k d)
 
       some : 1 ≤ getD numbers to 0
-      some = omega (arith, g .counted to wide, fewer)
+      some = omega (arith, g .has .counted to wide, fewer)
 
       -- so `to` is another, and is left
       apart : (p : ℕ) → getD numbers p 0 ≡ 0 → p ≡ to → ⊥
@@ -189,10 +181,10 @@ module _ (f : ℕ → ℕ) (P : ℕ) (small : P ≤ 16) (stays : Stays f P) wher
       lowered-other p d = getD-set-other numbers to p _ 0 d
 
       still-rings : (p : ℕ) → OnRing f P p → without p ≡ true
-      still-rings p o = sym (without-other p off) ∙ g .rings p o
+      still-rings p o = sym (without-other p off) ∙ g .has .rings p o
         where
           off : p ≡ at → ⊥
-          off d = ring-pointed f P stays left (g .rings) p o (sym (g .counted p (omega (arith, o .0))) ∙ ap (λ (k : ℕ). getD numbers k 0) d ∙ g .none)
+          off d = ring-pointed f P stays left (g .has .rings) p o (sym (g .has .counted p (omega (arith, o .0))) ∙ ap (λ (k : ℕ). getD numbers k 0) d ∙ g .none)
 
       still-counted : (q : ℕ) → q < 256 → getD lowered q 0 ≡ pointers f P without q
       unfolding lowered
@@ -200,11 +192,11 @@ module _ (f : ℕ → ℕ) (P : ℕ) (small : P ≤ 16) (stays : Stays f P) wher
         where
           go : Dec (q ≡ to) → getD lowered q 0 ≡ pointers f P without q
           go (yes d) =
-              rw (d, getD-set-same numbers to (getD numbers to 0 - 1) 0 (omega (arith, g .size))) (omega (arith, g .counted to wide, fewer))
-          go (no d) = lowered-other q d ∙ g .counted q m ∙ same q d
+              rw (d, getD-set-same numbers to (getD numbers to 0 - 1) 0 (omega (arith, g .has .size))) (omega (arith, g .has .counted to wide, fewer))
+          go (no d) = lowered-other q d ∙ g .has .counted q m ∙ same q d
 
-      still-later : (p : ℕ) → start < p → p < P → without p ≡ true
-      still-later p l h = sym (without-other p (λ d. omega (arith, g .below))) ∙ g .later p l h
+      still-later : (p : ℕ) → start + 1 ≤ p → p < P → without p ≡ true
+      still-later p l h = sym (without-other p (λ d. omega (arith, g .below))) ∙ g .has .later p l h
 
       still-stripped : (p : ℕ) → p < P → without p ≡ false → getD lowered p 0 ≡ 0
       still-stripped p h z = go (ℕ-discrete p at)
@@ -214,23 +206,18 @@ module _ (f : ℕ → ℕ) (P : ℕ) (small : P ≤ 16) (stays : Stays f P) wher
 
           go : Dec (p ≡ at) → getD lowered p 0 ≡ 0
           go (yes d) = zero-at (ap (λ (k : ℕ). getD numbers k 0) d ∙ g .none)
-          go (no d) = zero-at (g .stripped p h (without-other p d ∙ z))
+          go (no d) = zero-at (g .has .stripped p h (without-other p d ∙ z))
+
+      still : Left f P lowered (start + 1) without
+      unfolding lowered
+      still = record { size = length-set numbers to _ ∙ g .has .size; counted = still-counted; rings = still-rings; later = still-later; stripped = still-stripped }
 
       still-kept : (p : ℕ) → p ≤ start → (p ≡ to → ⊥) → without p ≡ true → getD lowered p 0 ≡ 0 → ⊥
       still-kept p l d y z = let b = without-left p y in g .kept p l (b .0) (b .1) (sym (lowered-other p d) ∙ z)
 
       -- the way ends: `to` has its turn yet, or is still pointed to
       ended : ((p : ℕ) → p ≤ start → p ≡ to → getD lowered p 0 ≡ 0 → ⊥) → Strip f P lowered (start + 1) without
-      unfolding lowered
-      ended stop =
-          record {
-            size = length-set numbers to _ ∙ g .size;
-            counted = still-counted;
-            rings = still-rings;
-            later = λ p l h. still-later p (omega arith) h;
-            stripped = still-stripped;
-            kept = λ p l y z. go p (omega arith) y z (ℕ-discrete p to);
-          }
+      ended stop = record { has = still; kept = λ p l y z. go p (omega arith) y z (ℕ-discrete p to) }
         where
           go : (p : ℕ) → p ≤ start → without p ≡ true → getD lowered p 0 ≡ 0 → Dec (p ≡ to) → ⊥
           go p l y z (yes d) = stop p l d z
@@ -238,23 +225,11 @@ module _ (f : ℕ → ℕ) (P : ℕ) (small : P ≤ 16) (stays : Stays f P) wher
 
       -- it goes on: nobody left points to `to`, which was looked at
       onward : to ≤ start → getD lowered to 0 ≡ 0 → Going f P lowered start to without
-      unfolding lowered
-      onward low z =
-          record {
-            size = length-set numbers to _ ∙ g .size;
-            counted = still-counted;
-            rings = still-rings;
-            later = still-later;
-            stripped = still-stripped;
-            kept = still-kept;
-            below = low;
-            stood = stands (left to) refl;
-            none = z;
-          }
+      onward low z = record { has = still; kept = still-kept; below = low; stood = stands (left to) refl; none = z }
         where
           stands : (b : Bool) → left to ≡ b → without to ≡ true
           stands true e = sym (without-other to (λ d. apart at (g .none) (sym d))) ∙ e
-          stands false e = absurd (apart to (g .stripped to (omega arith) e) refl)
+          stands false e = absurd (apart to (g .has .stripped to (omega arith) e) refl)
 
     pub goes-some : Goes f P numbers start at → 1 ≤ getD numbers to 0
     goes-some (left, g) = some left g
@@ -284,10 +259,10 @@ module _ (f : ℕ → ℕ) (P : ℕ) (small : P ≤ 16) (stays : Stays f P) wher
   -- ---- all were looked at
   pub strip-end : (numbers : List ℕ) (start : ℕ) → Stripping f P numbers start → P ≤ start → numbers ≡ table 256 (pointers f P (leftOf f P))
   strip-end numbers start (left, s) h =
-      table-is (pointers f P (leftOf f P)) 256 0 numbers (s .size)
-      (λ q l. s .counted q l ∙ tally-same (λ p. left p && eqb (f p) q) (λ p. leftOf f P p && eqb (f p) q) P (λ k m. ap (λ (b : Bool). b && eqb (f k) q) (agree k m)))
+      table-is (pointers f P (leftOf f P)) 256 0 numbers (s .has .size)
+      (λ q l. s .has .counted q l ∙ tally-same (λ p. left p && eqb (f p) q) (λ p. leftOf f P p && eqb (f p) q) P (λ k m. ap (λ (b : Bool). b && eqb (f k) q) (agree k m)))
     where
       agree : (p : ℕ) → p < P → left p ≡ leftOf f P p
       agree p l = iff _ _
-          (λ y. left-exactly f P stays p .1 (left-ring f P stays left (λ q m v z. s .kept q (omega arith) v (s .counted q (omega arith) ∙ z)) p l y))
-          (λ y. s .rings p (left-exactly f P stays p .0 y))
+          (λ y. left-exactly f P stays p .1 (left-ring f P stays left (λ q m v z. s .kept q (omega arith) v (s .has .counted q (omega arith) ∙ z)) p l y))
+          (λ y. s .has .rings p (left-exactly f P stays p .0 y))
