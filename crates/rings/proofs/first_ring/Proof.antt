@@ -170,7 +170,7 @@ element-copy-out-least-2 : tie.Need-element-copy-out-least-2 Inv-loop μ-loop In
 element-copy-out-least-2 c = inside (step (c .before))
 
 element-copy-out-grown-2 : tie.Need-element-copy-out-grown-2 Inv-loop μ-loop Inv-search μ-search
-element-copy-out-grown-2 c = inside (step (c .before .before))
+element-copy-out-grown-2 c = omega (arith, inside (step (c .before .before)))
 
 loop-less : tie.Need-loop-less Inv-loop μ-loop Inv-search μ-search
 loop-less c = search needs
