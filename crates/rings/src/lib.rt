@@ -107,7 +107,7 @@ fn first_ring(
     }
 }
 
-// No process has a full wait. All are looked at, and what each has is laid over the others': the compiler can then look at several at once.
+// No process has a full wait: what each has is laid over the others', as in the other tests of a whole array.
 fn none_full(full: &[u16; 16]) -> bool
     ensures { λ r. ⌜ r ≡ isGood (firstBad (isZero (now (full .entry))) 0 16) ⌝ }
 {
