@@ -52,9 +52,19 @@ def names():
         for group in re.findall(r"[({]((?:[^\s(){}\[\].,;:]+ )+): ", text):
             found |= set(group.split())
         found |= set(LOCAL.findall(text))
-        for clause in re.findall(r"^ *([^\s(){}\[\].,;:=]+)(?= [^=:\n]*=)", text, re.M):
-            found.add(clause)
-    return found - WORDS
+    return found - WORDS - brought()
+
+
+def brought():
+    """The names that a file brings from the library."""
+    own = {f.name for f in (TOP / "crates").iterdir()}
+    found = set()
+    for f in antt_files() + sorted(TOP.glob("crates/*/src/**/*.rt")):
+        for path, group in re.findall(r"\buse\s+([^\s{};]+)\.\{([^}]*)\}", f.read_text()):
+            words = path.split(".")
+            if words[0] != "Rattle" or words[1] not in own:
+                found |= {name.split(" as ")[0].strip() for name in group.split(",")}
+    return found
 
 
 def snake(name):

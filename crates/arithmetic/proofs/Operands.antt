@@ -9,7 +9,7 @@ use lib.IntN.{ℤ, pos, negsuc, neg_ℤ, nat_abs, ◌+ℤ◌, ◌-ℤ◌, ◌*�
 use lib.Signed.{mag, nat_abs-le}
 use mir.Syntax.{w32, w64}
 use mir.Val.{SFits, to_z, of_z}
-use mir.Facts.{to_z_of_z, sfits_widen}
+use mir.Facts.{to_z-of_z, sfits_widen}
 use Rattle.arithmetic.specs.Wrap.{wrap}
 use Rattle.arithmetic.proofs.Integers.{by_difference, mag_negate}
 use Rattle.arithmetic.proofs.WrapLaws.{wrap_fits}
@@ -19,14 +19,14 @@ wide h = sfits_widen tt h
 
 -- an operand, and the same cast to 64 bits
 pub operand : {z : ℤ} → SFits w32 z → SFits w64 (to_z w32 (of_z w32 z))
-operand h = rw (to_z_of_z h) (wide h)
+operand h = rw (to_z-of_z h) (wide h)
 
 cast : {z : ℤ} → SFits w32 z → to_z w64 (of_z w64 (to_z w32 (of_z w32 z))) ≡ z
-cast h = ap (λ (u : ℤ). to_z w64 (of_z w64 u)) (to_z_of_z h) ∙ to_z_of_z (wide h)
+cast h = ap (λ (u : ℤ). to_z w64 (of_z w64 u)) (to_z-of_z h) ∙ to_z-of_z (wide h)
 
 -- a number of 32 bits by its bits, as a test of equality leaves it
 pub number : {z : ℤ} {n : ℕ} → SFits w32 z → of_z w32 z ≡ n → z ≡ to_z w32 n
-number h e = sym (to_z_of_z h) ∙ ap (to_z w32) e
+number h e = sym (to_z-of_z h) ∙ ap (to_z w32) e
 
 -- an operation whose result at two operands of 32 bits fits 64
 module _ (f : ℤ → ℤ → ℤ) {x y : ℤ} (hx : SFits w32 x) (hy : SFits w32 y) (s : SFits w64 (f x y)) where
@@ -34,7 +34,7 @@ module _ (f : ℤ → ℤ → ℤ) {x y : ℤ} (hx : SFits w32 x) (hy : SFits w3
   result = rw (cast hx, cast hy) s
 
   pub answer : {r : ℤ} → r ≡ wrap (to_z w64 (of_z w64 (f (to_z w64 (of_z w64 (to_z w32 (of_z w32 x)))) (to_z w64 (of_z w64 (to_z w32 (of_z w32 y))))))) → to_z w32 (of_z w32 r) ≡ wrap (f x y)
-  answer e = rw (e, cast hx, cast hy, to_z_of_z s) (to_z_of_z (wrap_fits (f x y)))
+  answer e = rw (e, cast hx, cast hy, to_z-of_z s) (to_z-of_z (wrap_fits (f x y)))
 
 -- ---- that sum, difference and product do
 mag_opposite : (n : ℕ) (z : ℤ) → mag z < n → mag (neg_ℤ z) ≤ n

@@ -8,7 +8,7 @@ use lib.IntN.{ℤ, pos, negsuc, suc_ℤ, pred_ℤ, neg_ℤ, ◌+ℤ◌, ◌-ℤ�
 use lib.Signed.{mag, shr_z}
 use mir.Syntax.{w32}
 use mir.Val.{SFits}
-use borrow.Author.Tests.{lt_ltb, le-ltb}
+use borrow.Author.Tests.{lt-ltb, le-ltb}
 use Rattle.arithmetic.specs.Wrap.{residue, centred, wrap}
 use Rattle.arithmetic.proofs.Integers.{induct, by_difference, distribute, associate, carry, exchange, left_by, down_whole}
 
@@ -20,7 +20,7 @@ residue_below (negsuc n) = omega arith
 
 pub centred_low : (r : ℕ) → r < 2147483648 → centred r ≡ pos r
 unfolding centred
-centred_low r h = rw (lt_ltb r 2147483648 h)
+centred_low r h = rw (lt-ltb r 2147483648 h)
 
 centred_less : (r : ℕ) → 2147483648 ≤ r → centred r ≡ pos r -ℤ pos 4294967296
 unfolding centred

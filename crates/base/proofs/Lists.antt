@@ -7,8 +7,8 @@ use Prim.Native.Nat.{ℕ, zero, suc, ◌+◌, ◌-◌, ◌≤◌, ◌<◌}
 use native.Mathlib.Decide.{ℕ_discrete}
 use native.Mathlib.Nat.{le_of_suc-le-suc, not-suc-le-zero, add-zero, zero-add}
 use native.Mathlib.Omega.{arith}
-use lib.ListN.{length, get_or, set, replicate, length_set}
-use lib.Seq.{ext_get_or, get_or-set_same, get_or_set_other}
+use lib.ListN.{length, get_or, set, replicate, length-set}
+use lib.Seq.{ext_get_or, get_or-set_same, get_or-set_other}
 use Rattle.base.specs.Lists.{values, table, joined}
 
 -- ---- the values of a function
@@ -57,14 +57,14 @@ module _ {A : Type 0} (f : ℕ → A) (d : A) (old : List A) where
   pub filled_more : (i : ℕ) (a : List A) (v : A) → i < length a → v ≡ f i → Filled f d old i a → Filled f d old (i + 1) (set a i v)
   filled_more i a v h e s =
       record {
-        long = length_set a i v ∙ s.long;
+        long = length-set a i v ∙ s.long;
         done = λ k l. go k l (ℕ_discrete k i);
-        kept = λ k l. get_or_set_other a i k v d (λ q. omega arith) ∙ s.kept k (omega arith);
+        kept = λ k l. get_or-set_other a i k v d (λ q. omega arith) ∙ s.kept k (omega arith);
       }
     where
       go : (k : ℕ) → k < i + 1 → Dec (k ≡ i) → get_or (set a i v) k d ≡ f k
       go k l (yes q) = rw q (get_or-set_same a i v d h ∙ e)
-      go k l (no q) = get_or_set_other a i k v d q ∙ s.done k (omega arith)
+      go k l (no q) = get_or-set_other a i k v d q ∙ s.done k (omega arith)
 
   pub filled_all : (n : ℕ) (a : List A) → length old ≡ n → Filled f d old n a → a ≡ table n f
   filled_all n a e s = table_is f n d a (s.long ∙ e) s.done

@@ -4,7 +4,7 @@ use mathlib.Core.Path.{◌≡◌, refl, sym, subst}
 use mathlib.Core.Bool.{Bool, true, false}
 use Prim.Native.Nat.{ℕ, zero, suc, ◌+◌, ◌-◌, ◌≤◌, ◌<◌}
 use native.Mathlib.Decide.{dec_lt}
-use native.Mathlib.Numerals.{add_one}
+use native.Mathlib.Numerals.{add-one}
 use native.Mathlib.Omega.{arith}
 use lib.Dec.{T}
 use Rattle.base.specs.declared.Verdict.{Verdict}
@@ -15,7 +15,7 @@ module _ (f : ℕ → Verdict) where
   -- ---- the steps of a loop at test i of those before e
   pub on : (i e : ℕ) → i < e → f i ≡ Good → in_turn f (i + 1) (e - (i + 1)) ≡ in_turn f i (e - i)
   unfolding in_turn
-  on i e h g = let l : e - i ≡ suc (e - (i + 1)) = omega arith in rw (l, g, add_one)
+  on i e h g = let l : e - i ≡ suc (e - (i + 1)) = omega arith in rw (l, g, add-one)
 
   pub stop : (i e k : ℕ) → i < e → f i ≡ Bad k → in_turn f i (e - i) ≡ Bad k
   unfolding in_turn

@@ -5,10 +5,10 @@ use mathlib.Core.Path.{◌≡◌, refl, sym, ap, subst, ◌∙◌}
 use mathlib.Core.List.{List, append-nil}
 use mathlib.Core.Bool.{true, false}
 use Prim.Native.Nat.{ℕ, ◌+◌, ◌≤◌, ◌<◌}
-use native.Mathlib.Numerals.{add_one}
+use native.Mathlib.Numerals.{add-one}
 use native.Mathlib.Omega.{arith}
 use lib.IntN.{pos}
-use lib.ListN.{length, get_or, drop, replicate, drop_of_length-le, length_replicate}
+use lib.ListN.{length, get_or, drop, replicate, drop_of_length-le, length-replicate}
 use lib.Seq.{drop-cons}
 use Rattle.network.specs.declared.Network.{Network}
 use Rattle.network.specs.Rules.{passes}
@@ -31,7 +31,7 @@ use Rattle.bench_turns.specs.Processes.{Stands, Printable, PrintedAll}
 
 -- ---- all pick bytes
 plays_next : (ps : List ℕ) (i : ℕ) (b : Bench) → i < length ps → plays (drop i ps) b ≡ then_do (plays_one (get_or ps i 0) b) (plays (drop (i + 1) ps))
-plays_next ps i b h = rw (add_one i, drop-cons ps i 0 h)
+plays_next ps i b h = rw (add-one i, drop-cons ps i 0 h)
 
 module _ (picks : List ℕ) (used : ℕ) (f : Fixed) (input : List ℕ) (t₀ : Turn) where
   -- of the bytes from b₀ on the first i are played, with their lines in the buffer, and have led to t, on a lane of network n that is still sound
@@ -168,7 +168,7 @@ module _ (n : Network) (long : length n.capacity ≡ 32) (input picks : List ℕ
     pub first_ready : length n.sender ≡ 32 → length n.receiver ≡ 32 → Ready (plays picks) n.processes (fixed_of n) input (first_turn n entry)
     first_ready sending receiving =
         record {
-          full = record { arrays = fresh_full n long; long = length_replicate 8192 (pos 0); records = refl; ends = refl };
+          full = record { arrays = fresh_full n long; long = length-replicate 8192 (pos 0); records = refl; ends = refl };
           sending = sending;
           receiving = receiving;
           network = n;

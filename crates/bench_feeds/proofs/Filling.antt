@@ -4,9 +4,9 @@ use mathlib.Core.Path.{◌≡◌, refl, sym, ap, subst, ◌∙◌}
 use mathlib.Core.Bool.{Bool, true, false, cond, ◌&&◌, ◌||◌, true≢false}
 use mathlib.Core.List.{List, [], ◌∷◌}
 use Prim.Native.Nat.{ℕ, suc, ◌+◌, ◌-◌, ◌≤◌, ◌<◌}
-use native.Mathlib.Numerals.{add_one}
+use native.Mathlib.Numerals.{add-one}
 use native.Mathlib.Omega.{arith}
-use borrow.Author.Tests.{ltb-true, eqb_true, eq-eqb, ne_eqb}
+use borrow.Author.Tests.{ltb-true, eqb-true, eq-eqb, ne_eqb}
 use lib.Dec.{eqb, ltb}
 use lib.IntN.{ℤ}
 use Rattle.base.proofs.Conjunction.{both_true}
@@ -27,11 +27,11 @@ module _ (input : List ℕ) (c i : ℕ) where
 
   -- a record of another channel
   left_other : i < records input → (channel_at input i ≡ c → ⊥) → left_from input c i ≡ left_from input c (i + 1)
-  left_other h n = let l : records input - i ≡ suc (records input - (i + 1)) = omega arith in rw (l, ne_eqb (channel_at input i) c n, add_one i)
+  left_other h n = let l : records input - i ≡ suc (records input - (i + 1)) = omega arith in rw (l, ne_eqb (channel_at input i) c n, add-one i)
 
   -- a record of this one
   left_this : i < records input → channel_at input i ≡ c → left_from input c i ≡ value_at input i ∷ left_from input c (i + 1)
-  left_this h e = let l : records input - i ≡ suc (records input - (i + 1)) = omega arith in rw (l, eq-eqb (channel_at input i) c e, add_one i)
+  left_this h e = let l : records input - i ≡ suc (records input - (i + 1)) = omega arith in rw (l, eq-eqb (channel_at input i) c e, add-one i)
 
 -- ---- what feeding a value comes to, by what the feed answered
 feeding_by : (c : ℕ) (v : ℤ) (vs : List ℤ) (w : World) (r : Called) → r ≡ feed_of c v w
@@ -99,4 +99,4 @@ module _ (c : ℕ) (w : World) where
       go false e t =
           let a = both_true _ _ t in
           let b = both_true _ _ a.1 in
-          rw (left_this input c next (ltb-true _ _ b.0) (eqb_true _ _ b.1)) (full_stays _ _ a.0)
+          rw (left_this input c next (ltb-true _ _ b.0) (eqb-true _ _ b.1)) (full_stays _ _ a.0)

@@ -6,7 +6,7 @@ use mathlib.Core.List.{List}
 use Prim.Native.Nat.{ℕ, zero, suc, ◌+◌, ◌-◌, ◌≤◌, ◌<◌}
 use native.Mathlib.Omega.{arith}
 use lib.IntN.{ℤ}
-use lib.ListN.{length, get_or, set, length_set}
+use lib.ListN.{length, get_or, set, length-set}
 use Rattle.base.specs.declared.Refusal.{Refusal}
 use Rattle.base.specs.Refusals.{number_of}
 use Rattle.network.specs.Rules.{sender_of, receiver_of, outside}
@@ -216,7 +216,7 @@ module _ {sender receiver : List ℕ} {channels : ℕ} {conditions : List ℕ} {
           → Filled input c (get_or next' c 0) gone t' r t'' → Around sender receiver channels conditions input next t (c + 1) (set next' c r) t''
       filled_on {gone} {r} {t''} outer gone_is d =
           record {
-            places = length_set next' c r ∙ p.places;
+            places = length-set next' c r ∙ p.places;
             full = d.full;
             each =
                 λ l f.

@@ -5,12 +5,12 @@ use mathlib.Core.Bool.{true}
 use mathlib.Core.List.{List, []}
 use Prim.Native.Nat.{ℕ, suc, ◌+◌, ◌-◌, ◌≤◌, ◌<◌}
 use native.Mathlib.Decide.{ℕ_discrete}
-use native.Mathlib.Numerals.{add_one}
+use native.Mathlib.Numerals.{add-one}
 use native.Mathlib.Omega.{arith}
 use borrow.Author.Tests.{eq-eqb, ne_eqb}
 use lib.IntN.{ℤ}
-use lib.ListN.{length, get_or, set, length_set}
-use lib.Seq.{get_or-set_same, get_or_set_other, set-get_or}
+use lib.ListN.{length, get_or, set, length-set}
+use lib.Seq.{get_or-set_same, get_or-set_other, set-get_or}
 use Rattle.base.proofs.Lists.{length_values, table_at, table_is}
 use Rattle.network.specs.Rules.{sender_of, outside}
 use Rattle.lane.specs.State.{World, channel_of}
@@ -40,18 +40,18 @@ module _ (input at : List ℕ) where
       let l : c < length (left_at input at) = omega (arith, left_length) in
       rw e (get_or-set_same (left_at input at) c _ [] l ∙ ap (left_from input c) (sym (get_or-set_same at c k 0 (omega arith))))
   left_set_at c k long d h (no n) =
-      get_or_set_other (left_at input at) c d _ [] n ∙ left_at_lem d h ∙ ap (left_from input d) (sym (get_or_set_other at c d k 0 n))
+      get_or-set_other (left_at input at) c d _ [] n ∙ left_at_lem d h ∙ ap (left_from input d) (sym (get_or-set_other at c d k 0 n))
 
   left_set : (c k : ℕ) → length at ≡ 32 → set (left_at input at) c (left_from input c k) ≡ left_at input (set at c k)
   unfolding left_at
   left_set c k long =
       table_is (λ d. left_from input d (get_or (set at c k) d 0)) 32 [] (set (left_at input at) c (left_from input c k))
-      (length_set (left_at input at) c (left_from input c k) ∙ left_length)
+      (length-set (left_at input at) c (left_from input c k) ∙ left_length)
       (λ d h. left_set_at c k long d h (ℕ_discrete d c))
 
 -- ---- the next channel
 feeds_next : (c n : ℕ) (i : Inputs) → c < n → feeds_from c (n - c) i ≡ feeds_from (c + 1) (n - (c + 1)) (feeds_at c i)
-feeds_next c n i h = let l : n - c ≡ suc (n - (c + 1)) = omega arith in rw (l, add_one c)
+feeds_next c n i h = let l : n - c ≡ suc (n - (c + 1)) = omega arith in rw (l, add-one c)
 
 -- what feeding it comes to: inside, it stays
 feeds_inside : (c : ℕ) (i : Inputs) → (sender_of i.world.lane.network c ≡ outside → ⊥) → feeds_at c i ≡ i
@@ -111,5 +111,5 @@ module _ {input next : List ℕ} {w₀ : World} {c : ℕ} {at : List ℕ} {w : W
     pub filled : (k : ℕ) (w' : World) → sender_of w₀.lane.network c ≡ outside → feeding c (left_from input c (get_or at c 0)) w ≡ fed (left_from input c k) w'
         → Rising input next w₀ (c + 1) (set at c k) w'
     filled k w' e f =
-        onward (set at c k) w' (length_set at c k ∙ s.long) (subst (λ (f : Fed). Preserves w f.world) f (feeding_kept c (left_from input c (get_or at c 0)) w))
+        onward (set at c k) w' (length-set at c k ∙ s.long) (subst (λ (f : Fed). Preserves w f.world) f (feeding_kept c (left_from input c (get_or at c 0)) w))
         (feeds_outside input at c w _ below (rw s.kept.network e) f ∙ ap (λ (l : List (List ℤ)). inputs l w') (left_set input at c k s.long))

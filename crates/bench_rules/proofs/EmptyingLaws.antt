@@ -4,7 +4,7 @@ use mathlib.Core.Path.{◌≡◌, refl, sym, ap, ◌∙◌}
 use mathlib.Core.Bool.{Bool, true, false, cond, not, ◌&&◌, ◌||◌, true≢false}
 use mathlib.Core.List.{List}
 use Prim.Native.Nat.{ℕ, zero, suc, ◌+◌, ◌-◌, ◌<◌}
-use native.Mathlib.Nat.{sub_zero}
+use native.Mathlib.Nat.{sub-zero}
 use native.Mathlib.Omega.{arith}
 use borrow.Author.Tests.{ltb-false}
 use lib.Dec.{eqb, ltb}
@@ -31,7 +31,7 @@ empties_next c n o h =
 
 pub empties_all : (o : Outputs) → empties o ≡ empties_from 0 (o.world.lane.network.channels - 0) o
 unfolding empties
-empties_all o = ap (λ (k : ℕ). empties_from 0 k o) (sym (sub_zero o.world.lane.network.channels))
+empties_all o = ap (λ (k : ℕ). empties_from 0 k o) (sym (sub-zero o.world.lane.network.channels))
 
 -- ---- what a call answers and leaves, as lines and outputs
 abbrev pub given_by : ℕ → List Bool → Called → Printed Outputs

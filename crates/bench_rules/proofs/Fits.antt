@@ -7,7 +7,7 @@ use Prim.Native.Nat.{ℕ, zero, suc, ◌+◌, ◌*◌, ◌≤◌}
 use native.Mathlib.Omega.{arith}
 use lib.Dec.{eqb}
 use lib.IntN.{ℤ}
-use lib.ListN.{length, get_or, replicate, length_append}
+use lib.ListN.{length, get_or, replicate, length-append}
 use Rattle.network.specs.declared.Network.{Network}
 use Rattle.network.specs.Rules.{sender_of, outside, passes}
 use Rattle.network.proofs.Passed.{passed}
@@ -117,7 +117,7 @@ proc_lines_short : (l : Lane) (p k : ℕ) → length (text (proc_lines l p k)) �
 proc_lines_short l p zero = omega arith
 proc_lines_short l p (suc k) =
     let line : Line = proc p (status_of l p) (standing_of l p).moves in
-    omega (arith, length_append (line_text line) (text (proc_lines l (suc p) k)), proc_short p (status_of l p) (standing_of l p).moves, proc_lines_short l (suc p) k)
+    omega (arith, length-append (line_text line) (text (proc_lines l (suc p) k)), proc_short p (status_of l p) (standing_of l p).moves, proc_lines_short l (suc p) k)
 
 -- ---- the start: nothing held, no end given
 start_worth : (n : Network) (input : List ℕ) → worth (holding (start n input)) ≡ 224
@@ -147,5 +147,5 @@ listing_fits n input picks e h =
     let same : l.network ≡ n = (plays_paid picks b (start_given n input)).network ∙ start_network n input in
     let few : l.network.processes ≤ 16 = rw same (passed n e).processes_high in
     let last = proc_lines_short l 0 l.network.processes in
-    rw (text_append d.lines (proc_lines l 0 l.network.processes), length_append (text d.lines) (text (proc_lines l 0 l.network.processes)))
+    rw (text_append d.lines (proc_lines l 0 l.network.processes), length-append (text d.lines) (text (proc_lines l 0 l.network.processes)))
     (omega (arith, plays_fit n input picks h, last, few))

@@ -8,7 +8,7 @@ use Prim.Native.Nat.{ℕ, zero, suc, ◌+◌, ◌*◌, ◌≤◌, ◌<◌}
 use native.Mathlib.Omega.{arith}
 use lib.Dec.{eqb}
 use lib.IntN.{ℤ}
-use lib.ListN.{length, get_or, set, replicate, length_append, length_set}
+use lib.ListN.{length, get_or, set, replicate, length-append, length-set}
 use Rattle.network.specs.Rules.{receiver_of, outside}
 use Rattle.network.proofs.Passed.{passed}
 use Rattle.process.specs.declared.Channel.{Channel}
@@ -62,12 +62,12 @@ paid_then {ls = ls} {ms = ms} x y =
     record {
       network = y.network ∙ x.network;
       places = y.places ∙ x.places;
-      paid = rw (text_append ls ms, length_append (text ls) (text ms)) (omega (arith, x.paid, y.paid));
+      paid = rw (text_append ls ms, length-append (text ls) (text ms)) (omega (arith, x.paid, y.paid));
     }
 
 -- one line
 pub line_long : (l : Line) (k : ℕ) → length (line_text l) ≤ k → length (text (l ∷ [])) ≤ k
-line_long l k h = omega (arith, length_append (line_text l) [])
+line_long l k h = omega (arith, length-append (line_text l) [])
 
 -- ---- a take by cases: nothing, the end of an empty channel, or a message
 take_by :
@@ -91,7 +91,7 @@ module _ (c : ℕ) (o : Outputs) (t : Takeable c o.world) where
   end_paid long e =
       let high = (passed _ (sound_says o.world.lane t.sound).passed).channels_high in
       let g = given_set o.given c (omega (arith, t.there)) e in
-      record { network = refl; places = length_set o.given c true; paid = omega (arith, line_long (end c) 7 (end_short c)) }
+      record { network = refl; places = length-set o.given c true; paid = omega (arith, line_long (end c) 7 (end_short c)) }
 
   -- a message
   out_paid : ((channel_of o.world.lane c).held ≡ 0 → ⊥) → (v : ℤ)

@@ -5,7 +5,7 @@ use mathlib.Core.List.{List, [], ◌++◌, append_assoc, append-nil}
 use Prim.Native.Nat.{ℕ, ◌+◌, ◌≤◌}
 use native.Mathlib.Nat.{add-zero}
 use native.Mathlib.Omega.{arith}
-use lib.ListN.{length, length_append}
+use lib.ListN.{length, length-append}
 use Rattle.listing.specs.Text.{Line, text}
 use Rattle.listing.specs.Written.{written}
 use Rattle.listing.proofs.Laws.{text_append, written_length, written_none, written_then}
@@ -21,7 +21,7 @@ pub record Underway {A B : Type 0} (all : Printed B) (at : ℕ) (entry : List �
 
 -- the length of texts one after the other
 length_text : (a b : List Line) → length (text (a ++ b)) ≡ length (text a) + length (text b)
-length_text a b = ap length (text_append a b) ∙ length_append (text a) (text b)
+length_text a b = ap length (text_append a b) ∙ length-append (text a) (text b)
 
 -- nothing done
 pub begun : {A B : Type 0} (f : A → Printed B) (a : A) (at : ℕ) (entry : List ℕ) → at + length (text (f a).lines) ≤ length entry → Underway (f a) at entry f a at entry

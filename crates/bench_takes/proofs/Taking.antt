@@ -7,9 +7,9 @@ use mathlib.Core.List.{List}
 use Prim.Native.Nat.{ℕ, zero, suc, ◌+◌, ◌-◌, ◌≤◌, ◌<◌}
 use native.Mathlib.Nat.{add-zero}
 use native.Mathlib.Omega.{arith}
-use borrow.Author.Tests.{eqb_true, ne_eqb}
+use borrow.Author.Tests.{eqb-true, ne_eqb}
 use lib.Dec.{eqb, ltb}
-use lib.ListN.{length, get_or, set, length_set}
+use lib.ListN.{length, get_or, set, length-set}
 use Rattle.base.proofs.Conjunction.{both_true}
 use Rattle.network.specs.Rules.{receiver_of, outside}
 use Rattle.process.specs.declared.Channel.{Channel}
@@ -120,7 +120,7 @@ counts_is (refused k) l = refl
 
 -- as many ends as before
 marked_long : (over : Bool) (given : List Bool) (c : ℕ) → length given ≡ 32 → length (cond over (set given c true) given) ≡ 32
-marked_long true given c e = length_set given c true ∙ e
+marked_long true given c e = length-set given c true ∙ e
 marked_long false given c e = e
 
 module _ {c : ℕ} {t : Outlets} {answer : TakeAnswer} {oldest held : List ℕ} (long : length t.cells ≡ 8192)
@@ -214,7 +214,7 @@ module _ {all : Printed Outputs} {t₀ t : Outlets} {l : Lane} {n c : ℕ} (p : 
           sound = p.sound;
           there = rw (← e) m;
           outer =
-              eqb_true _ _
+              eqb-true _ _
               (both_true (eqb (receiver_of l.network c) outside) _
               (both_true _ (ltb 0 (channel_of lane c).held || (channel_of lane c).closed) some).0
               ).0;

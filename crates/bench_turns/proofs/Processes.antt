@@ -3,8 +3,8 @@
 use mathlib.Core.Path.{◌≡◌, refl, ap, ◌∙◌}
 use mathlib.Core.List.{List, [], ◌∷◌, append-nil}
 use Prim.Native.Nat.{ℕ, suc, ◌+◌, ◌-◌, ◌≤◌, ◌<◌}
-use native.Mathlib.Nat.{sub_zero}
-use native.Mathlib.Numerals.{add_one}
+use native.Mathlib.Nat.{sub-zero}
+use native.Mathlib.Numerals.{add-one}
 use native.Mathlib.Omega.{arith}
 use lib.ListN.{length, get_or}
 use Rattle.network.proofs.Passed.{passed}
@@ -36,7 +36,7 @@ proc_at p l = printed (proc p (status_of l p) (standing_of l p).moves ∷ []) l
 procs_next : (n p : ℕ) (l : Lane) → p < n → procs_from n p l ≡ then_do (proc_at p l) (procs_from n (p + 1))
 procs_next n p l h =
     let d : n - p ≡ suc (n - (p + 1)) = omega arith in
-    rw (d, add_one p)
+    rw (d, add-one p)
 
 module _ {n p at : ℕ} {entry : List ℕ} {l : Lane} {place : ℕ} {listing : List ℕ} {status : Status}
     (u : Underway (procs_from n 0 l) at entry (procs_from n p) l place listing) (h : p < n) (e : status ≡ status_of l p) where
@@ -60,7 +60,7 @@ pub no_process_left : {n p at : ℕ} {entry : List ℕ} {l : Lane} {place : ℕ}
 no_process_left {n} {p} {at} {entry} {l} u h =
     let d : n - p ≡ 0 = omega arith in
     let f = finished u l (ap (λ (k : ℕ). printed (proc_lines l p k) l) d) in
-    (rw sub_zero at f.1, rw sub_zero at f.2)
+    (rw sub-zero at f.1, rw sub-zero at f.2)
 
 -- ---- from arrays
 -- the lines of the processes before p are written, whatever lane it is with these arrays
@@ -85,7 +85,7 @@ module _ {used : ℕ} {v : Arrays} {moves entry : List ℕ} {at : ℕ} where
 
   -- no line written
   pub none_lined : Lined used v moves entry at 0 at entry
-  none_lined = record { under = λ l s. begun (procs_from used 0) l at entry (rw sub_zero s.room) }
+  none_lined = record { under = λ l s. begun (procs_from used 0) l at entry (rw sub-zero s.room) }
 
   -- the line of process p
   module _ {p place : ℕ} {listing : List ℕ} {w : Wait} {status : Status} (i : Lined used v moves entry at p place listing) (h : p < used) (looked : Looked p v w)

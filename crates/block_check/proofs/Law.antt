@@ -6,7 +6,7 @@ use mathlib.Core.List.{List}
 use Prim.Native.Nat.{ℕ, zero, suc, ◌+◌, ◌-◌, ◌*◌, ◌/◌, ◌%◌, ◌≤◌, ◌<◌}
 use native.Mathlib.Omega.{arith}
 use native.Mathlib.Nat.{add-zero}
-use native.Mathlib.Numerals.{add_one}
+use native.Mathlib.Numerals.{add-one}
 use borrow.Author.Tests.{ltb-true, ltb-false}
 use lib.Bits.{bit_xor, xor_zero_r, xor_comm, xor_lt, xor_shr, xor_mod, xor_block, xor_shifted}
 use lib.Dec.{ltb}
@@ -93,7 +93,7 @@ law c b hc hb =
 
 -- a turn of the loop
 pub turn : (c : ℕ) (bs : List ℕ) (i : ℕ) → i < length bs → from (byte c (get_or bs i 0)) (drop (i + 1) bs) ≡ from c (drop i bs)
-turn c bs i h = rw (add_one, drop-cons bs i 0)
+turn c bs i h = rw (add-one, drop-cons bs i 0)
 
 -- nothing is left
 pub done : (c : ℕ) (bs : List ℕ) (i : ℕ) → length bs ≤ i → from c (drop i bs) ≡ from 65535 bs → c ≡ crc bs

@@ -5,11 +5,11 @@ use mathlib.Core.Bool.{Bool, true, false, cond, not, true≢false}
 use mathlib.Core.List.{List, [], ◌∷◌}
 use Prim.Native.Nat.{ℕ, suc, ◌+◌, ◌≤◌, ◌<◌}
 use native.Mathlib.Decide.{dec_lt}
-use native.Mathlib.Numerals.{add_one}
+use native.Mathlib.Numerals.{add-one}
 use native.Mathlib.Omega.{arith}
-use borrow.Author.Tests.{lt_ltb, le-ltb, eq-eqb, eqb-false}
+use borrow.Author.Tests.{lt-ltb, le-ltb, eq-eqb, eqb-false}
 use lib.IntN.{ℤ, pos}
-use lib.ListN.{length, get_or, drop, set, length_set, drop_of_length-le}
+use lib.ListN.{length, get_or, drop, set, length-set, drop_of_length-le}
 use lib.Seq.{drop-cons, get_or-set_same, set-set}
 use Rattle.process.specs.declared.Channel.{Channel}
 use Rattle.process.specs.Channels.{no_channel, put_one, slot}
@@ -52,7 +52,7 @@ module _ (c : ℕ) (gone : Bool) (values : List ℤ) (end : Stream) (cells : Lis
     -- one more
     on : full gone h ≡ false → pour_of c gone (drop (k + 1) values) (pour_one c gone (get_or values k (pos 0)) (stream k h n cells)) ≡ end
     unfolding pour_of
-    on e = ap (λ (j : ℕ). pour_of c gone (drop j values) (pour_one c gone (get_or values k (pos 0)) (stream k h n cells))) (add_one k) ∙ sym (rw (drop-cons values k (pos 0) more, e)) ∙ f.rest
+    on e = ap (λ (j : ℕ). pour_of c gone (drop j values) (pour_one c gone (get_or values k (pos 0)) (stream k h n cells))) (add-one k) ∙ sym (rw (drop-cons values k (pos 0) more, e)) ∙ f.rest
 
     -- with the receiver ended or not
     on_with : full gone h ≡ false → (g : Bool) → gone ≡ g → pour_of c gone (drop (k + 1) values) (pour_one c g (get_or values k (pos 0)) (stream k h n cells)) ≡ end
@@ -69,7 +69,7 @@ module _ (c : ℕ) (gone : Bool) (values : List ℤ) (end : Stream) (cells : Lis
     flows_put e g =
         record {
           within = omega arith;
-          long = length_set cells _ _ ∙ f.long;
+          long = length-set cells _ _ ∙ f.long;
           roomy = omega (arith, flows_room e g);
           rest = on_with e false g;
         }
@@ -98,11 +98,11 @@ stopped_suc : (a n : ℕ) → stopped (suc a) (suc n) ≡ stopped a n
 stopped_suc a n = go (dec_lt a n)
   where
     go : Dec (a < n) → stopped (suc a) (suc n) ≡ stopped a n
-    go (yes d) = rw (lt_ltb (suc a) (suc n) (omega arith), lt_ltb a n d)
+    go (yes d) = rw (lt-ltb (suc a) (suc n) (omega arith), lt-ltb a n d)
     go (no d) = rw (le-ltb (suc a) (suc n) (omega arith), le-ltb a n (omega arith))
 
 stopped_none : (n : ℕ) → stopped 0 (suc n) ≡ refused 10
-stopped_none n = rw (lt_ltb 0 (suc n) (omega arith))
+stopped_none n = rw (lt-ltb 0 (suc n) (omega arith))
 
 -- a test that passes
 pub pass : (bad : Bool) (k : ℕ) (w : World) (next : Called) → bad ≡ false → refuse bad k w next ≡ next
@@ -120,7 +120,7 @@ module _ (c : ℕ) (l : Lane) (gone : Bool) (o : Outer c l gone) where
       let w = poured c l s in
       pass (cells_wrong w) 15 w _ (ap not (eq-eqb (length s.cells) 8192 r.long))
       ∙ pass (unsound w) 16 w _ (ap not r.sound)
-      ∙ pass (no_channel_there c w) 8 w _ (ap not (lt_ltb c l.network.channels o.there))
+      ∙ pass (no_channel_there c w) 8 w _ (ap not (lt-ltb c l.network.channels o.there))
       ∙ pass (sender_inside c w) 9 w _ (ap not (eq-eqb (sender_of l.network c) outside o.outer))
       ∙ pass (is_closed c w) 11 w _ (ap (λ (h : Channel). h.closed) (channel_is s) ∙ r.unclosed)
       ∙ ap (λ (f : Bool). refuse f 10 w (called accepted (counting (stored c v w)))) (ap₂ full o.ended (channel_is s))

@@ -7,10 +7,10 @@ use mathlib.Core.List.{List, [], ◌∷◌}
 use Prim.Native.Nat.{ℕ, suc, ◌+◌, ◌-◌, ◌≤◌, ◌<◌}
 use native.Mathlib.Decide.{dec_lt}
 use native.Mathlib.Omega.{arith}
-use borrow.Author.Tests.{lt_ltb, eq-eqb, ltb-true, eqb_true, eqb-false, not-false}
+use borrow.Author.Tests.{lt-ltb, eq-eqb, ltb-true, eqb-true, eqb-false, not-false}
 use lib.Dec.{eqb, ltb}
 use lib.IntN.{ℤ}
-use lib.ListN.{length, get_or_eq_default}
+use lib.ListN.{length, get_or-eq_default}
 use Rattle.process.specs.declared.Channel.{Channel}
 use Rattle.process.specs.Channels.{no_channel, put_one}
 use Rattle.lane.specs.declared.Lane.{Lane}
@@ -39,7 +39,7 @@ pour_room c false (v ∷ vs) s l = go (eqb s.channel.held s.channel.capacity) re
         → (s.channel.held + 1 ≤ s.channel.capacity
         → (pour_of c false vs (pour_one c false v s)).fed ≡ s.fed + 1 + room_in false (length vs) (put_one s.channel))
         → (cond f s (pour_of c false vs (pour_one c false v s))).fed ≡ s.fed + room_in false (suc (length vs)) s.channel
-    go true e later = let q = eqb_true s.channel.held s.channel.capacity e in omega arith
+    go true e later = let q = eqb-true s.channel.held s.channel.capacity e in omega arith
     go false e later = let q = eqb-false s.channel.held s.channel.capacity e in let r = later (omega arith) in omega arith
 
 -- ---- on a lane
@@ -51,19 +51,19 @@ channel_there l c s t = at (dec_lt c (length l.channels))
     at (yes d) = d
     at (no d) =
         let low = ((sound_says l s).channels c t).low in
-        let e : (channel_of l c).capacity ≡ 0 = ap (λ (h : Channel). h.capacity) (get_or_eq_default l.channels no_channel (omega arith)) in
+        let e : (channel_of l c).capacity ≡ 0 = ap (λ (h : Channel). h.capacity) (get_or-eq_default l.channels no_channel (omega arith)) in
         absurd (omega arith)
 
 module _ (c : ℕ) (w : World) (o : Open c w) where
   opens : Opened (length w.cells) w.lane c w.lane.network.channels
-  opens = record { long = eqb_true _ _ (not-false _ o.cells); sound = not-false _ o.sound; there = ltb-true _ _ (not-false _ o.there) }
+  opens = record { long = eqb-true _ _ (not-false _ o.cells); sound = not-false _ o.sound; there = ltb-true _ _ (not-false _ o.there) }
 
   outer : Outer c w.lane (receiver_ended c w)
   outer =
       record {
         low = channel_there w.lane c opens.sound opens.there;
         there = opens.there;
-        outer = eqb_true _ _ (not-false _ o.outer);
+        outer = eqb-true _ _ (not-false _ o.outer);
         ended = refl;
       }
 
@@ -100,7 +100,7 @@ opened_by c v w =
     record {
       cells = ap not (eq-eqb _ _ t.long);
       sound = ap not t.sound;
-      there = ap not (lt_ltb _ _ t.there);
+      there = ap not (lt-ltb _ _ t.there);
       outer = ap not (eq-eqb _ _ t.outer);
       unclosed = t.unclosed;
     })

@@ -3,7 +3,7 @@
 use mathlib.Core.Path.{◌≡◌, refl, sym, subst}
 use mathlib.Core.Bool.{Bool, true, false, not}
 use Prim.Native.Nat.{ℕ, ◌<◌}
-use borrow.Author.Tests.{ltb-true, eqb_true, not-false, eq-eqb, lt_ltb}
+use borrow.Author.Tests.{ltb-true, eqb-true, not-false, eq-eqb, lt-ltb}
 use native.Mathlib.Omega.{arith}
 use lib.Dec.{T, eqb, ltb}
 use lib.IntN.{ℤ}
@@ -42,7 +42,7 @@ opened_says cells l number count e =
     let a = pass_with (not (eqb cells 8192)) Buffer _ e in
     let b = pass_with (not (sound_of l)) Unsound _ a.1 in
     let d = pass_with (not (ltb number count)) Absent _ b.1 in
-    record { long = eqb_true _ _ (not-false _ a.0); sound = not-false _ b.0; there = ltb-true _ _ (not-false _ d.0) }
+    record { long = eqb-true _ _ (not-false _ a.0); sound = not-false _ b.0; there = ltb-true _ _ (not-false _ d.0) }
 
 pub decide_opened : (cells : ℕ) (l : Lane) (number count : ℕ) (w : World) (next : Called)
     → decided (opened cells l number count) w next ≡ refuse (not (eqb cells 8192)) 15 w (refuse (not (sound_of l)) 16 w (refuse (not (ltb number count)) 8 w next))
@@ -52,7 +52,7 @@ decide_opened cells l number count w next =
 
 pub says_opened : {cells : ℕ} {l : Lane} {number count : ℕ} → Opened cells l number count → opened cells l number count ≡ tested.Passed
 unfolding opened
-says_opened {cells} {l} {number} {count} o = rw (eq-eqb cells 8192 o.long, o.sound, lt_ltb number count o.there)
+says_opened {cells} {l} {number} {count} o = rw (eq-eqb cells 8192 o.long, o.sound, lt-ltb number count o.there)
 
 -- ---- the calls after their first tests
 pub pick_opened : (p : ℕ) (w : World) → pick_of p w ≡ decided (opened (length w.cells) w.lane p w.lane.network.processes) w (picked p w)

@@ -5,8 +5,8 @@ use mathlib.Core.Bool.{Bool, true, false, cond}
 use mathlib.Core.List.{List, [], ◌∷◌, ◌++◌}
 use Prim.Native.Nat.{ℕ, ◌+◌, ◌≤◌, ◌<◌}
 use native.Mathlib.Omega.{arith}
-use lib.ListN.{length, replicate, length_replicate}
-use borrow.Author.Tests.{lt_ltb, le-ltb, eq-eqb}
+use lib.ListN.{length, replicate, length-replicate}
+use borrow.Author.Tests.{lt-ltb, le-ltb, eq-eqb}
 use Rattle.network.specs.declared.Network.{Network}
 use Rattle.network.proofs.Passed.{passed}
 use Rattle.process.specs.declared.Outcome.{Outcome}
@@ -56,7 +56,7 @@ with_room l = at (sound_of l) refl
     by no_ring s e = (refl, refl)
     by ceiling s e = (refl, refl)
     by (found ring c) s e =
-        let f = le-ltb (length {A = ℕ} (replicate 16 0)) (length ring) (omega (arith, ring_few l s ring c e, length_replicate {A = ℕ} 16 0)) in
+        let f = le-ltb (length {A = ℕ} (replicate 16 0)) (length ring) (omega (arith, ring_few l s ring c e, length-replicate {A = ℕ} 16 0)) in
         (rw f, rw f)
 
     at : (t : Bool) → sound_of l ≡ t → With l (relieve_of l (replicate 16 0))
@@ -108,7 +108,7 @@ makes_relief r =
 -- ---- a pick
 pub picked_there : (n : Network) (w : World) (p : ℕ) → Ready n w → p < n.processes → pick_of p w ≡ picked p w
 unfolding pick_of
-picked_there n w p s h = rw (eq-eqb (length w.cells) 8192 s.long, s.sound, s.same, lt_ltb p n.processes h)
+picked_there n w p s h = rw (eq-eqb (length w.cells) 8192 s.long, s.sound, s.same, lt-ltb p n.processes h)
 
 pub moved_as : (o : Outcome) (c : ℕ) → was_moved (told (answer_to o c)) ≡ has_moved o
 moved_as Moved c = refl

@@ -6,7 +6,7 @@ use mathlib.Core.Bool.{true, false, true≢false}
 use mathlib.Core.List.{List, [], ◌∷◌, ◌++◌}
 use Prim.Native.Nat.{ℕ, zero, suc, ◌*◌, ◌≤◌, ◌<◌}
 use native.Mathlib.Omega.{arith}
-use borrow.Author.Tests.{ltb-true, eqb_true}
+use borrow.Author.Tests.{ltb-true, eqb-true}
 use lib.Dec.{eqb, ltb}
 use lib.ListN.{replicate}
 use lib.IntN.{ℤ, pos}
@@ -93,7 +93,7 @@ input c = []
 none : (c : ℕ) → from_outside pair c ≡ true → ⊥
 none c o =
     let b = both_true (ltb c 2) (eqb (sender_of pair c) outside) o in
-    at c (ltb-true c 2 b.0) (eqb_true (sender_of pair c) outside b.1)
+    at c (ltb-true c 2 b.0) (eqb-true (sender_of pair c) outside b.1)
   where
     at : (c : ℕ) → c < 2 → sender_of pair c ≡ outside → ⊥
     at zero l e = omega arith

@@ -5,7 +5,7 @@ use mathlib.Core.List.{List, ◌++◌}
 use Prim.Native.Nat.{ℕ, ◌+◌, ◌-◌, ◌*◌, ◌/◌, ◌%◌, ◌≤◌, ◌<◌}
 use native.Mathlib.Decide.{dec_lt}
 use native.Mathlib.Omega.{arith}
-use lib.ListN.{length, get_or, take, drop, replicate, length_replicate, length_append, length-take, length_drop, get_or_replicate, get_or-append, get_or_eq_default}
+use lib.ListN.{length, get_or, take, drop, replicate, length-replicate, length-append, length-take, length-drop, get_or-replicate, get_or-append, get_or-eq_default}
 use lib.Seq.{length-take-le, get_or-append-add, get_or-take, get_or-drop}
 use Rattle.base.specs.Lists.{table}
 use Rattle.base.proofs.Lists.{Filled, table_is}
@@ -17,15 +17,15 @@ blank n = replicate n 0
 
 pub length_blank : (n : ℕ) → length (blank n) ≡ n
 unfolding blank
-length_blank n = length_replicate n 0
+length_blank n = length-replicate n 0
 
 pub blank_at : (n k : ℕ) → k < n → get_or (blank n) k 0 ≡ 0
 unfolding blank
-blank_at n k h = get_or_replicate n k 0 0 h
+blank_at n k h = get_or-replicate n k 0 0 h
 
 -- ---- a part of a list, and a list behind n elements
 pub length_part : {A : Type 0} (i e : ℕ) (a : List A) → e ≤ length a → length (take (e - i) (drop i a)) ≡ e - i
-length_part i e a h = simp (length-take, length_drop) (omega arith)
+length_part i e a h = simp (length-take, length-drop) (omega arith)
 
 pub past : {A : Type 0} (n : ℕ) (p q : List A) (k : ℕ) (d : A) → length p ≡ n → n ≤ k → get_or (p ++ q) k d ≡ get_or q (k - n) d
 past n p q k d e h =
@@ -37,7 +37,7 @@ module _ {A : Type 0} (f : ℕ → A) (d : A) (old : List A) where
   pub filled_part : (i n : ℕ) (a ys : List A) → i + n ≤ length a → length ys ≡ n → ((m : ℕ) → m < n → get_or ys m d ≡ f (i + m)) → Filled f d old i a → Filled f d old (i + n) (take i a ++ (ys ++ drop n (drop i a)))
   filled_part i n a ys h e g s =
       record {
-        long = simp (length_append, length_drop, front) (omega (arith, s.long));
+        long = simp (length-append, length-drop, front) (omega (arith, s.long));
         done = λ k l. go k l (dec_lt k i);
         kept =
             λ k l.
@@ -73,4 +73,4 @@ pub code_at : (s : List ℕ) (k m : ℕ) → 1 ≤ k → m < 508 → get_or (tak
 code_at s k m h l = get_or-take 508 (drop (512 * k) s) m 0 l ∙ get_or-drop (512 * k) s m 0 ∙ ap (λ (j : ℕ). get_or s j 0) (omega arith)
 
 pub code_past : (s : List ℕ) (j : ℕ) → length s % 512 ≡ 0 → 508 * (length s / 512 - 1) ≤ j → get_or s (code_place j) 0 ≡ 0
-code_past s j h l = get_or_eq_default s 0 (omega arith)
+code_past s j h l = get_or-eq_default s 0 (omega arith)

@@ -3,7 +3,7 @@
 use mathlib.Core.Path.{◌≡◌}
 use mathlib.Core.Bool.{true}
 use Prim.Native.Nat.{ℕ, ◌/◌, ◌%◌, ◌≤◌}
-use borrow.Author.Tests.{eqb_true}
+use borrow.Author.Tests.{eqb-true}
 use native.Mathlib.Omega.{arith}
 use lib.Dec.{eqb}
 use Rattle.base.specs.Tests.{between}
@@ -19,5 +19,5 @@ pub sized : (n : ℕ) → length_right n ≡ true → Sized n
 sized n e =
     let b = both_true (eqb (n % 512) 0) (between 2 (n / 512) 9) e in
     let d = between_true 2 (n / 512) 9 b.1 in
-    let z = eqb_true (n % 512) 0 b.0 in
+    let z = eqb-true (n % 512) 0 b.0 in
     record { whole = z; low = omega arith; high = omega arith }

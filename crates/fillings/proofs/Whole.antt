@@ -6,7 +6,7 @@ use mathlib.Core.List.{List, [], ◌∷◌}
 use Prim.Native.Nat.{ℕ, zero, suc, ◌≤◌, ◌<◌}
 use native.Mathlib.Decide.{dec_le, dec_lt}
 use native.Mathlib.Omega.{arith}
-use lib.ListN.{take, get_or_eq_default}
+use lib.ListN.{take, get_or-eq_default}
 use Rattle.base.proofs.Lists.{table_at, length_values}
 use Rattle.network.specs.declared.Network.{Network}
 use Rattle.process.specs.declared.Channel.{Channel}
@@ -62,7 +62,7 @@ fresh_none n c = at (dec_lt c 32)
     at : Dec (c < 32) → ((channel_of (fresh_of n) c).held ≡ 0) × ((channel_of (fresh_of n) c).peak ≡ 0)
     at (yes l) = let e = table_at (fresh_channel n) 32 c no_channel l in (ap (λ (h : Channel). h.held) e, ap (λ (h : Channel). h.peak) e)
     at (no l) =
-        let e = get_or_eq_default (fresh_of n).channels no_channel {n = c} (omega (arith, length_values (fresh_channel n) 32 0)) in
+        let e = get_or-eq_default (fresh_of n).channels no_channel {n = c} (omega (arith, length_values (fresh_channel n) 32 0)) in
         (ap (λ (h : Channel). h.held) e, ap (λ (h : Channel). h.peak) e)
 
 pub highest_filling : HighestFilling

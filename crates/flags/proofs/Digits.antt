@@ -6,7 +6,7 @@ use mathlib.Core.Bool.{Bool, true, ◌&&◌}
 use Prim.Native.Nat.{ℕ, zero, suc, ◌+◌, ◌-◌, ◌*◌, ◌/◌, ◌%◌, ◌^◌, ◌<◌}
 use native.Mathlib.Nat.{mod-eq_of_lt, div-eq_of_lt, div-lt_iff_lt-mul, add-zero}
 use native.Mathlib.Omega.{arith}
-use borrow.Author.Tests.{ltb-true, lt_ltb, eqb_true, eq-eqb, ne_eqb}
+use borrow.Author.Tests.{ltb-true, lt-ltb, eqb-true, eq-eqb, ne_eqb}
 use lib.Bits.{bit_and, and_block, and_high}
 use lib.Dec.{eqb, ltb}
 use lib.Pow.{pow_pos}
@@ -15,7 +15,7 @@ use Rattle.flags.specs.Clean.{clean}
 
 -- a sum is zero where both parts are
 sum_zero : (x k y : ℕ) → 0 < k → eqb (x * k + y) 0 ≡ (eqb y 0 && eqb x 0)
-sum_zero x k zero h = iff _ _ (λ e. product x (eqb_true _ _ e)) (λ e. rw (eqb_true x 0 e) (eq-eqb (0 * k + 0) 0 (omega arith)))
+sum_zero x k zero h = iff _ _ (λ e. product x (eqb-true _ _ e)) (λ e. rw (eqb-true x 0 e) (eq-eqb (0 * k + 0) 0 (omega arith)))
   where
     product : (x : ℕ) → x * k + 0 ≡ 0 → eqb x 0 ≡ true
     product zero e = refl
@@ -37,5 +37,5 @@ below j k d h =
     ap (λ (n : ℕ). eqb n 0) (and_high d j k ∙ ap (λ (n : ℕ). n * 2 ^ k) e ∙ sym (add-zero (x * 2 ^ k)))
     ∙ sum_zero x (2 ^ k) 0 (pow_pos k)
     ∙ iff (eqb x 0) (ltb d (2 ^ k))
-    (λ t. let z : x ≡ 0 = eqb_true x 0 t in lt_ltb d (2 ^ k) (omega (arith, (div-lt_iff_lt-mul {k = 2 ^ k} {x = d} {y = 1} (pow_pos k)).0 (omega arith))))
+    (λ t. let z : x ≡ 0 = eqb-true x 0 t in lt-ltb d (2 ^ k) (omega (arith, (div-lt_iff_lt-mul {k = 2 ^ k} {x = d} {y = 1} (pow_pos k)).0 (omega arith))))
     (λ t. eq-eqb x 0 (div-eq_of_lt (ltb-true d (2 ^ k) t)))

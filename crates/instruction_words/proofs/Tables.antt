@@ -6,8 +6,8 @@ use mathlib.Core.List.{List}
 use Prim.Native.Nat.{ℕ, ◌+◌, ◌-◌, ◌*◌, ◌≤◌, ◌<◌, min}
 use native.Mathlib.Decide.{dec_lt}
 use native.Mathlib.Omega.{arith}
-use borrow.Author.Tests.{lt_ltb, le-ltb}
-use lib.ListN.{length, get_or, set, replicate, length_replicate, get_or_replicate}
+use borrow.Author.Tests.{lt-ltb, le-ltb}
+use lib.ListN.{length, get_or, set, replicate, length-replicate, get_or-replicate}
 use Rattle.base.specs.Lists.{table}
 use Rattle.base.proofs.Lists.{Filled, filled_more, length_values, table_at, table_is}
 use Rattle.instruction_words.specs.Words.{room, no_field, asked, receiving, sending, no_opcode, opcode_word, long_word, plain_word, channel_word}
@@ -34,7 +34,7 @@ filled_rest f old i a l g s = table_is f 256 0 a (s.long ∙ l) (λ k h. go k h 
 
 -- the length of what is filled
 pub same_long : (n : ℕ) (old : List ℕ) → old ≡ replicate 256 n → length old ≡ 256
-same_long n old e = rw e (length_replicate 256 n)
+same_long n old e = rw e (length-replicate 256 n)
 
 pub table_long : (g : ℕ → ℕ) (old : List ℕ) → old ≡ table 256 g → length old ≡ 256
 table_long g old e = rw e (length_values g 256 0)
@@ -57,7 +57,7 @@ module _ (f g : ℕ → ℕ) (old : List ℕ) (e : old ≡ table 256 g) where
 pub opcodes_all : (count p : ℕ) (old a : List ℕ) → old ≡ replicate 256 no_opcode → Filled (opcode_word count p) 0 old 14 a → a ≡ table 256 (opcode_word count p)
 opcodes_all count p old a e s =
     filled_rest (opcode_word count p) old 14 a (same_long no_opcode old e)
-    (λ k h l. rw e (get_or_replicate 256 k no_opcode 0 l) ∙ sym (opcode_none count p k h)) s
+    (λ k h l. rw e (get_or-replicate 256 k no_opcode 0 l) ∙ sym (opcode_none count p k h)) s
 
 -- only the words of 8 to 11 know the count, and only those of 11 to 13 the process
 module _ (before count p q : ℕ) where
@@ -140,13 +140,13 @@ module _ (count p : ℕ) (hp : p < 16) where
 -- ---- by the field b
 -- of a table of zeros the entries below 128 are long words already
 pub long_front : (old : List ℕ) → old ≡ replicate 256 0 → Filled long_word 0 old 128 old
-long_front old e = front long_word old 128 (λ k h. rw (e, lt_ltb k 128 h) (get_or_replicate 256 k 0 0 (omega arith)))
+long_front old e = front long_word old 128 (λ k h. rw (e, lt-ltb k 128 h) (get_or-replicate 256 k 0 0 (omega arith)))
 
 pub long_entry : (b : ℕ) → 128 ≤ b → 0x1FF800000 ≡ long_word b
 long_entry b h = sym (rw (le-ltb b 128 h))
 
 pub short_plain : (b : ℕ) → b < 32 → 0x2041003C0000001E + 0xFFFFFF0000 * b ≡ plain_word b
-short_plain b h = rw (lt_ltb b 32 h) (omega arith)
+short_plain b h = rw (lt-ltb b 32 h) (omega arith)
 
 pub long_plain : (b : ℕ) → 32 ≤ b → long_word b ≡ plain_word b
 long_plain b h = sym (rw (le-ltb b 32 h))
@@ -164,7 +164,7 @@ module _ (receiver sender : List ℕ) (channels b : ℕ) (few : channels ≤ 32)
   unfolding channel_word
   channel_adds w x y h p q r =
       let e = short_plain b (omega arith) in
-      rw (lt_ltb b channels h, lt_ltb b 32 (omega arith))
+      rw (lt-ltb b channels h, lt-ltb b 32 (omega arith))
       (omega (arith, receiving_min (get_or receiver b 0), sending_min (get_or sender b 0)))
 
   pub plain_adds : channels ≤ b → plain_word b ≡ channel_word receiver sender channels b

@@ -6,9 +6,9 @@ use mathlib.Core.List.{List}
 use Prim.Native.Nat.{ℕ, zero, suc, ◌+◌, ◌*◌, ◌≤◌, ◌<◌, min, zero-le, suc-le-suc}
 use native.Mathlib.Decide.{dec_lt}
 use native.Mathlib.Omega.{arith}
-use borrow.Author.Tests.{lt_ltb, le-ltb, eqb_true, eq-eqb, ne_eqb}
+use borrow.Author.Tests.{lt-ltb, le-ltb, eqb-true, eq-eqb, ne_eqb}
 use lib.Dec.{eqb, ltb}
-use lib.ListN.{get_or, get_or_eq_default}
+use lib.ListN.{get_or, get_or-eq_default}
 use Rattle.base.proofs.Conjunction.{iff}
 use Rattle.instruction_words.specs.Words.{short, receiving, sending, no_opcode, opcode_word, long_word, end_at, channel_word}
 
@@ -25,7 +25,7 @@ by_number (suc k) P below (suc o) rest = by_number k (λ n. P (suc n)) below.1 o
 
 pub opcode_none : (count p o : ℕ) → 14 ≤ o → opcode_word count p o ≡ no_opcode
 unfolding opcode_word
-opcode_none count p o h = rw get_or_eq_default
+opcode_none count p o h = rw get_or-eq_default
 
 opcodes_small : (count p : ℕ) → p < 16 → Below 14 (λ o. opcode_word count p o < 0x7000000000000000)
 unfolding opcode_word
@@ -49,7 +49,7 @@ module _ (ends : List ℕ) (channels b : ℕ) where
   end_is p h = go (ltb b channels)
     where
       go : (there : Bool) → eqb (cond there (min (get_or ends b 0) 30) 30) p ≡ (there && eqb (get_or ends b 0) p)
-      go true = iff _ _ (omega (arith, eqb_true, eq-eqb)) (omega (arith, eqb_true, eq-eqb))
+      go true = iff _ _ (omega (arith, eqb-true, eq-eqb)) (omega (arith, eqb-true, eq-eqb))
       go false = ne_eqb 30 p (omega arith)
 
   pub end_none : channels ≤ b → end_at ends channels b ≡ 30
@@ -71,5 +71,5 @@ unfolding channel_word
 channel_small receiver sender channels b = go (dec_lt b 32)
   where
     go : Dec (b < 32) → word (end_at receiver channels b) (end_at sender channels b) b < 0x7000000000000000
-    go (yes h) = rw (lt_ltb b 32 h) (omega (arith, end_low receiver channels b, end_low sender channels b))
+    go (yes h) = rw (lt-ltb b 32 h) (omega (arith, end_low receiver channels b, end_low sender channels b))
     go (no h) = rw (le-ltb b 32 (omega arith)) (omega (arith, long_low b))

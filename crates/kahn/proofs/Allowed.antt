@@ -6,10 +6,10 @@ use mathlib.Core.Bool.{Bool, true, false, cond, not, ◌&&◌, true≢false, fal
 use mathlib.Core.List.{List, []}
 use Prim.Native.Nat.{ℕ, suc}
 use native.Mathlib.Omega.{arith}
-use borrow.Author.Tests.{eqb_true, ne_eqb}
+use borrow.Author.Tests.{eqb-true, ne_eqb}
 use lib.Dec.{eqb, ltb}
 use lib.IntN.{ℤ}
-use lib.ListN.{length, length_set}
+use lib.ListN.{length, length-set}
 use Rattle.network.specs.declared.Network.{Network}
 use Rattle.network.specs.declared.Instruction.{Instruction}
 use Rattle.network.specs.Code.{fields_right, register, unnamed, target}
@@ -39,7 +39,7 @@ abbrev pub receiver_in : Network → ℕ → ℕ
 receiver_in n c = cond (ltb c n.channels) (receiver_of n c) 254
 
 end_is : (there : Bool) (e p : ℕ) → (there && eqb e p) ≡ true → cond there e 254 ≡ p
-end_is true e p h = eqb_true e p h
+end_is true e p h = eqb-true e p h
 end_is false e p h = absurd (false≢true h)
 
 -- ---- it owns the channel
@@ -196,7 +196,7 @@ module _ (q : Process) (live : has_ended q ≡ false) (fit : Fit q) where
   goes false x y f g = g
 
   assigned_goes : (r : ℕ) (v : ℤ) → (has_ended (assigned r v q) ≡ false) × Fit (assigned r v q)
-  assigned_goes r v = (live, length_set q.registers r v ∙ fit)
+  assigned_goes r v = (live, length-set q.registers r v ∙ fit)
 
   divided_leads : (r : ℕ) (d : Quotient) → Leads (divided r d q)
   divided_leads r (value v) = assigned_goes r v

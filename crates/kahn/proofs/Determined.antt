@@ -10,7 +10,7 @@ use Prim.Native.Nat.{ℕ, zero, suc, ◌+◌, ◌≤◌, ◌<◌}
 use native.Mathlib.Decide.{ℕ_discrete, dec_le}
 use native.Mathlib.Omega.{arith}
 use lib.Dec.{eqb}
-use borrow.Author.Tests.{eqb_true, eq-eqb, ne_eqb}
+use borrow.Author.Tests.{eqb-true, eq-eqb, ne_eqb}
 use Rattle.kahn.specs.Boards.{Prefix}
 use Rattle.kahn.proofs.Conds.{cond_same, cond_is, cond_twice, cond_true}
 use Rattle.kahn.proofs.Unbounded.{State, Act, Net, Event, turn, arrive, finish, In, from, update, act, emit, seal, pour, change, does, after, step, Moves, run, round, empty, fill, rounds, happen, happens, tally, moved_at, moves_of, Legal}
@@ -96,7 +96,7 @@ module _ (N : Net) where
     unfolding fill change
     fill_more {left} H f c =
         more_cond (eqb (sender c) 255) λ s.
-        let e = eqb_true (sender c) 255 s in
+        let e = eqb-true (sender c) 255 s in
         record { extra = left c; longer = sym (f.fits c e); ended = f.done c e; stays = λ _. refl }
 
     fill_grown : (p : ℕ) {left : ℕ → List W} (H : State X W) → p ≢ 255 → Fed left H → Grown N p H (fill N input H)
@@ -143,8 +143,8 @@ module _ (N : Net) where
     unfolding change
     fed_feed {left} H c v rest r f =
         record {
-          fits = λ d e. rw (eq-eqb (sender d) 255 e) (feed_moves (eqb d c) (H.sent d) (left d) rest v (λ s. ap left (eqb_true d c s) ∙ r) ∙ f.fits d e);
-          done = λ d e. rw (eq-eqb (sender d) 255 e) (λ t. feed_open (eqb d c) (left d) rest v (λ s. ap left (eqb_true d c s) ∙ r) (f.done d e t));
+          fits = λ d e. rw (eq-eqb (sender d) 255 e) (feed_moves (eqb d c) (H.sent d) (left d) rest v (λ s. ap left (eqb-true d c s) ∙ r) ∙ f.fits d e);
+          done = λ d e. rw (eq-eqb (sender d) 255 e) (λ t. feed_open (eqb d c) (left d) rest v (λ s. ap left (eqb-true d c s) ∙ r) (f.done d e t));
         }
 
     pub fed_finish : {left : ℕ → List W} (H : State X W) (c : ℕ) → left c ≡ [] → Fed left H → Fed left (change N 255 (seal c (λ x. x)) H)
@@ -152,7 +152,7 @@ module _ (N : Net) where
     fed_finish {left} H c r f =
         record {
           fits = λ d e. rw (eq-eqb (sender d) 255 e) (f.fits d e);
-          done = λ d e. rw (eq-eqb (sender d) 255 e) (shut_done (eqb d c) (H.closed d) (left d) (λ s. ap left (eqb_true d c s) ∙ r) (f.done d e));
+          done = λ d e. rw (eq-eqb (sender d) 255 e) (shut_done (eqb d c) (H.closed d) (left d) (λ s. ap left (eqb-true d c s) ∙ r) (f.done d e));
         }
 
     -- H is on the way to every state after m rounds
@@ -245,9 +245,9 @@ module _ (N : Net) where
     fill_full H f g =
         λ i. record {
           processes = λ q. cond_same (eqb q 255) (H.processes q) i;
-          sent = λ c. cond_is (eqb (sender c) 255) (input c) (H.sent c) (λ s. sym (f c (eqb_true (sender c) 255 s))) i;
+          sent = λ c. cond_is (eqb (sender c) 255) (input c) (H.sent c) (λ s. sym (f c (eqb-true (sender c) 255 s))) i;
           received = λ c. cond_same (eqb (receiver c) 255) (H.received c) i;
-          closed = λ c. cond_is (eqb (sender c) 255) true (H.closed c) (λ s. sym (g c (eqb_true (sender c) 255 s))) i;
+          closed = λ c. cond_is (eqb (sender c) 255) true (H.closed c) (λ s. sym (g c (eqb-true (sender c) 255 s))) i;
         }
 
     none_of : (o : Option (Act X W)) → ((a : Act X W) → o ≡ some a → ⊥) → o ≡ none

@@ -10,7 +10,7 @@ use Prim.Native.Nat.{ℕ, zero, suc}
 use native.Mathlib.Decide.{ℕ_discrete}
 use lib.Dec.{eqb}
 use lib.ListN.{get_elem?}
-use borrow.Author.Tests.{eqb_true, ne_eqb}
+use borrow.Author.Tests.{eqb-true, ne_eqb}
 use Rattle.process.specs.Intent.{Intent, idle, inner, receive, send, close, halt}
 use Rattle.kahn.proofs.Conds.{cond_false, cond_comm, cond_true}
 use Rattle.kahn.proofs.Unbounded.{State, Act, Net, Owns, In, await, act, quit, change, does, after, step, run}
@@ -40,7 +40,7 @@ module _ {A : Type 0} where
   none_some e = absurd (subst (λ o. Each (λ _. ⊥) o) e tt)
 
 pub apart : (m : ℕ) {p q : ℕ} → p ≢ q → eqb m p ≡ true → eqb m q ≡ true → ⊥
-apart m {p} {q} h s t = h (sym (eqb_true m p s) ∙ eqb_true m q t)
+apart m {p} {q} h s t = h (sym (eqb-true m p s) ∙ eqb-true m q t)
 
 module _ {W : Type 0} where
   more_snoc : (s : Bool) (l : List W) (v : W) (t : Bool) → (s ≡ true → t ≡ false) → More l t (cond s (l ++ (v ∷ [])) l) t
@@ -70,7 +70,7 @@ module _ {X W : Type 0} where
   act_grows idle H = tt
   act_grows (inner x) H = λ c. more_same _ _ _ (λ e. e)
   act_grows (receive b k e) H = await_grows H b k e _ _
-  act_grows (send b v x f) H = open_grows H (H.closed b) _ _ (quit_grows H f) (λ o c. more_snoc (eqb c b) _ v _ (λ s. ap H.closed (eqb_true c b s) ∙ o))
+  act_grows (send b v x f) H = open_grows H (H.closed b) _ _ (quit_grows H f) (λ o c. more_snoc (eqb c b) _ v _ (λ s. ap H.closed (eqb-true c b s) ∙ o))
   act_grows (close b x f) H = open_grows H (H.closed b) _ _ (quit_grows H f) (λ o c. more_same _ _ _ (cond_true (eqb c b)))
   act_grows (halt x) H = quit_grows H x
 

@@ -7,7 +7,7 @@ use mathlib.Core.List.{List, [], ◌∷◌, ◌++◌, append-nil}
 use mathlib.Core.Option.{some}
 use Prim.Native.Nat.{ℕ, ◌+◌, ◌<◌}
 use native.Mathlib.Omega.{arith}
-use borrow.Author.Tests.{lt_ltb}
+use borrow.Author.Tests.{lt-ltb}
 use lib.Dec.{eqb}
 use lib.IntN.{ℤ}
 use Rattle.network.specs.declared.Network.{Network}
@@ -148,21 +148,21 @@ module _ (n : Network) (pass : passes n ≡ true) where
         (λ t. happened (feed c v) _ (arrive c v) _ refl refl (λ d. refl)
         (ap (λ (x : World). board_of (lane.counting x)) (stored_is n pass c v accepted b t.there))
         refl
-        (feed_kept (machine_of n pass) b H out c v R (channel_below c t.there) (rw (lt_ltb c n.channels t.there) t.outer)
+        (feed_kept (machine_of n pass) b H out c v R (channel_below c t.there) (rw (lt-ltb c n.channels t.there) t.outer)
         (sym (full_is n pass c accepted b t.there) ∙ t.room)))
     next_at (close c) =
         close_cases (λ (r : Called). Next (close c) H out (made r)) (world_of n accepted b)
         (λ k. nothing (close c) _ b refl refl (λ d. refl) refl R)
         c
         (λ t. happened (close c) _ (finish c) _ refl refl (λ d. refl) refl refl
-        (close_kept (machine_of n pass) b H out c R (rw (lt_ltb c n.channels t.there) t.outer)))
+        (close_kept (machine_of n pass) b H out c R (rw (lt-ltb c n.channels t.there) t.outer)))
     next_at (take c) =
         take_cases (λ (r : Called). Next (take c) H out (made r)) (world_of n accepted b)
         (λ k. nothing (take c) _ b refl refl (λ d. cond_same (eqb c d) []) refl R)
         c
         (λ t e f. nothing (take c) _ b refl refl (λ d. cond_same (eqb c d) []) refl R)
         (λ t z. record {
-          related = take_kept (machine_of n pass) b H out c R (rw (lt_ltb c n.channels t.there) t.outer) z;
+          related = take_kept (machine_of n pass) b H out c R (rw (lt-ltb c n.channels t.there) t.outer) z;
           counts = refl;
         })
     next_at (relieve buffer) =

@@ -6,7 +6,7 @@ use mathlib.Core.List.{List}
 use Prim.Native.Nat.{ℕ, ◌+◌, ◌*◌, ◌<◌}
 use native.Mathlib.Decide.{dec_lt}
 use native.Mathlib.Omega.{arith}
-use lib.ListN.{length, get_or, get_or_eq_default}
+use lib.ListN.{length, get_or, get_or-eq_default}
 use Rattle.base.specs.Lists.{table, word_at}
 use Rattle.base.proofs.Lists.{length_values, table_at, table_is}
 use Rattle.network.specs.declared.Network.{Network}
@@ -42,7 +42,7 @@ module _ (f g : List ℕ) (alike : Alike f g) where
     where
       at : Dec (k < length f) → get_or f k 0 ≡ get_or g k 0
       at (yes h) = alike.same k h never
-      at (no h) = get_or_eq_default f 0 (omega arith) ∙ sym (get_or_eq_default g 0 (omega (arith, alike.long)))
+      at (no h) = get_or-eq_default f 0 (omega arith) ∙ sym (get_or-eq_default g 0 (omega (arith, alike.long)))
 
   early : (k : ℕ) → k < 72 → get_or f k 0 ≡ get_or g k 0
   early k l = same_byte k (apart_early k l)

@@ -11,8 +11,8 @@ use native.Mathlib.Omega.{arith}
 use borrow.Author.Tests.{ltb-true, le-ltb, eq-eqb, ne_eqb}
 use lib.Dec.{eqb, ltb}
 use lib.IntN.{ℤ, pos}
-use lib.ListN.{length, get_or, set, length_set}
-use lib.Seq.{set-get_or, get_or-set_same, get_or_set_other}
+use lib.ListN.{length, get_or, set, length-set}
+use lib.Seq.{set-get_or, get_or-set_same, get_or-set_other}
 use Rattle.base.specs.declared.Verdict.TheVariants.{Good}
 use Rattle.network.specs.declared.Network.{Network}
 use Rattle.network.specs.Code.{fields_right, stands_right, may_be_last}
@@ -124,7 +124,7 @@ pub sized_place : (s : Store) (p : ℕ) (q : Process) → Sized s → p < 16 →
 sized_place s p q g i f =
     record {
       registers = length_put s.registers (8 * p) q.registers ∙ g.registers;
-      standings = length_set s.standings p (split q) ∙ g.standings;
+      standings = length-set s.standings p (split q) ∙ g.standings;
     }
 
 pub look_place : (s : Store) (p : ℕ) (x : Process) (q : ℕ) → Sized s → p < 16 → Fit x → look (place s p x) q ≡ cond (eqb q p) x (look s q)
@@ -142,7 +142,7 @@ look_place s p x q g i f = go (ℕ_discrete q p)
         rw (
           ne_eqb q p m,
           eight_put_other s.registers p q x.registers (λ e. m (sym e)),
-          get_or_set_other s.standings p q (split x) no_standing m,
+          get_or-set_other s.standings p q (split x) no_standing m,
         )
 
 pub place_look : (s : Store) (p : ℕ) → Sized s → p < 16 → place s p (look s p) ≡ s

@@ -9,7 +9,7 @@ use Prim.Native.Nat.{ℕ, ◌+◌, ◌<◌}
 use native.Mathlib.Omega.{arith}
 use lib.Dec.{eqb}
 use lib.ListN.{get_elem?}
-use borrow.Author.Tests.{eqb_true, eqb-false, eq-eqb, ne_eqb}
+use borrow.Author.Tests.{eqb-true, eqb-false, eq-eqb, ne_eqb}
 use Rattle.process.specs.Intent.{Intent, idle, inner, receive, send, close, halt}
 use Rattle.kahn.proofs.Unbounded.{State, Act, Owns, goto, took, emit, seal, quit, await, act, change, does, happen, arrive, finish}
 use Rattle.process.specs.Channels.{get_one, close_one, enlarge_one, slot}
@@ -61,7 +61,7 @@ module _ (M : Machine) where
             → KeptBy out p l H (await b k e (get_elem? (H.sent b) (H.received b)) (H.closed b))
             (cond t (cond (channel_at M l b).closed (go M (become M p e l)) (stay M waiting_empty l))
             (go M (become M p (k (cell_at M l (slot b (channel_at M l b) 0))) (put_channel M b (get_one (channel_at M l b)) l))))
-        empty true q = shut (channel_at M l b).closed refl (eqb_true _ _ q)
+        empty true q = shut (channel_at M l b).closed refl (eqb-true _ _ q)
         empty false q =
             let z = eqb-false (channel_at M l b).held 0 q in
             let v = cell_at M l (slot b (channel_at M l b) 0) in

@@ -4,7 +4,7 @@ use mathlib.Core.Path.{◌≡◌, refl, sym, ap, ◌∙◌}
 use mathlib.Core.Bool.{Bool, true, false, cond, ◌&&◌, false≢true}
 use mathlib.Core.List.{List, [], ◌∷◌, ◌++◌, append-nil, append_assoc, append_cancel_left}
 use Prim.Native.Nat.{ℕ}
-use borrow.Author.Tests.{lt_ltb, eqb_true, eqb-false, eq-eqb, ne_eqb}
+use borrow.Author.Tests.{lt-ltb, eqb-true, eqb-false, eq-eqb, ne_eqb}
 use lib.Dec.{eqb, ltb}
 use lib.IntN.{ℤ}
 use Rattle.network.specs.declared.Network.{Network}
@@ -34,13 +34,13 @@ module _ (n : Network) (w : World) (network : w.lane.network ≡ n) where
   unfolding apply
   fed_outside c v =
       feed_cases (λ (r : Called). was_accepted (told r.answer) ≡ true → sender_in n c ≡ 255) w (λ k e. absurd (false≢true e)) c v
-      (λ t e. rw (← network, lt_ltb c w.lane.network.channels t.there) t.outer)
+      (λ t e. rw (← network, lt-ltb c w.lane.network.channels t.there) t.outer)
 
   pub closed_outside : (c : ℕ) → was_accepted (apply (close c) w).reply ≡ true → sender_in n c ≡ 255
   unfolding apply
   closed_outside c =
       close_cases (λ (r : Called). was_accepted (told r.answer) ≡ true → sender_in n c ≡ 255) w (λ k e. absurd (false≢true e)) c
-      (λ t e. rw (← network, lt_ltb c w.lane.network.channels t.there) t.outer)
+      (λ t e. rw (← network, lt-ltb c w.lane.network.channels t.there) t.outer)
 
 module _ (n : Network) (pass : passes n ≡ true) (input : ℕ → List ℤ) where
   -- steps are fair where `before` was fed already and `left` is left of the input
@@ -112,7 +112,7 @@ module _ (n : Network) (pass : passes n ≡ true) (input : ℕ → List ℤ) whe
         where
           at : (t : Bool) → eqb x c ≡ t → (before x ++ fed_by (feed c v) w x) ++ cond t rest (left x) ≡ before x ++ left x
           at true q =
-              let s = eqb_true x c q in
+              let s = eqb-true x c q in
               rw (s, one_fed, now) (append_assoc (before c) (v ∷ []) rest)
           at false q = rw (ne_eqb c x (λ k. eqb-false x c q (sym k)), append-nil)
 

@@ -6,8 +6,8 @@ use mathlib.Core.Bool.{Bool, true, false, cond, true≢false}
 use mathlib.Core.List.{List, [], ◌∷◌, ◌++◌}
 use Prim.Native.Nat.{ℕ, suc, ◌+◌, ◌≤◌, ◌<◌}
 use native.Mathlib.Omega.{arith}
-use native.Mathlib.Numerals.{add_one}
-use lib.ListN.{get_or, set, length, take, length_append}
+use native.Mathlib.Numerals.{add-one}
+use lib.ListN.{get_or, set, length, take, length-append}
 use lib.Seq.{take-append-le, take-suc}
 use Rattle.process.specs.declared.Channel.{Channel}
 use Rattle.process.specs.Channels.{get_one, put_one, close_one, enlarge_one, drop_one, slot}
@@ -35,7 +35,7 @@ module _ {W : Type 0} {d : W} {I : Type 0} {c : ℕ} {h : Channel} {cells s : Li
         fits = L.fits;
         begins = L.begins;
         from = L.from;
-        count = simp length_append (omega (arith, L.count));
+        count = simp length-append (omega (arith, L.count));
         ring = ring_put d c h cells s L.from v k n (omega (arith, L.fits)) L.count L.ring;
         mine = L.mine;
         gone = λ g. absurd (true≢false (sym g ∙ a));
@@ -52,7 +52,7 @@ module _ {W : Type 0} {d : W} {I : Type 0} {c : ℕ} {h : Channel} {cells s : Li
         fits = L.fits;
         begins = L.begins;
         from = L.from + 1;
-        count = simp length_append (omega (arith, L.count));
+        count = simp length-append (omega (arith, L.count));
         ring = λ i l. absurd (omega arith);
         mine = λ _ f. absurd (true≢false (sym g ∙ f));
         gone = L.gone;
@@ -83,7 +83,7 @@ module _ {W : Type 0} {d : W} {I : Type 0} {c : ℕ} {h : Channel} {cells s : Li
     where
       more : o ++ (get_or cells (slot c h 0) d ∷ []) ≡ take (L.from + 1) s
       more = let k : L.from + 0 ≡ L.from = omega arith in
-          rw ((L.given u).1, add_one, L.ring 0 (omega arith), k) (sym (take-suc s L.from d (omega (arith, L.count))))
+          rw ((L.given u).1, add-one, L.ring 0 (omega arith), k) (sym (take-suc s L.from d (omega (arith, L.count))))
 
   pub line_close : Line d I c (close_one h) cells s r true e o
   line_close = record { shut = refl; room = L.room; fits = L.fits; begins = L.begins; from = L.from; count = L.count; ring = L.ring; mine = L.mine; gone = L.gone; given = L.given }

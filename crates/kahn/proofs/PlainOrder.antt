@@ -6,9 +6,9 @@ use mathlib.Core.Bool.{Bool, true, false, cond, ◌&&◌, ◌||◌}
 use mathlib.Core.Option.{none}
 use mathlib.Core.List.{List, [], ◌∷◌, ◌++◌}
 use Prim.Native.Nat.{ℕ, zero, suc, ◌+◌, ◌≤◌, ◌<◌}
-use native.Mathlib.Numerals.{add_one}
+use native.Mathlib.Numerals.{add-one}
 use native.Mathlib.Omega.{arith}
-use borrow.Author.Tests.{ltb-true, ltb-false, lt_ltb, eqb_true, eq-eqb, ne_eqb}
+use borrow.Author.Tests.{ltb-true, ltb-false, lt-ltb, eqb-true, eq-eqb, ne_eqb}
 use lib.Dec.{eqb, ltb}
 use lib.IntN.{ℤ, pos}
 use lib.ListN.{length, get_or, get_elem?}
@@ -36,7 +36,7 @@ owned : {A : Type 0} (f : ℕ → A) (end : ℕ → ℕ) (p b c : ℕ) (v w : A)
 owned {A} f end p b c v w o s = at (eqb c b) refl
   where
     at : (t : Bool) → eqb c b ≡ t → cond t v (f c) ≡ cond (eqb (end c) p) (cond t w (f c)) (f c)
-    at true e = let d = eqb_true c b e in rw (eq-eqb (end c) p (ap end d ∙ o)) (s d)
+    at true e = let d = eqb-true c b e in rw (eq-eqb (end c) p (ap end d ∙ o)) (s d)
     at false e = sym (cond_same (eqb (end c) p) (f c))
 
 -- its sender ends
@@ -78,7 +78,7 @@ module _ (n : Network) (pass : passes n ≡ true) where
         λ i. record {
           processes = λ r. cond (eqb r p) q (s.processes r);
           sent = λ c. sym (cond_same (eqb (sender_in n c) p) (s.sent c)) i;
-          received = λ c. owned s.received (receiver_in n) p b c (s.received b + 1) (suc (s.received c)) o (λ e. rw (e, add_one)) i;
+          received = λ c. owned s.received (receiver_in n) p b c (s.received b + 1) (suc (s.received c)) o (λ e. rw (e, add-one)) i;
           closed = λ c. sym (cond_same (eqb (sender_in n c) p) (s.closed c)) i;
         }
 
@@ -153,7 +153,7 @@ module _ (n : Network) (pass : passes n ≡ true) where
   unfolding plain_step step does stands_at
   step_is p h s =
       let k = (passed n pass).processes_high in
-      let l = lt_ltb p n.processes h in
+      let l = lt-ltb p n.processes h in
       rw l (resolve_is p s (omega arith) (intent_of n p (s.processes p)) (rw l at ((net_of n pass).owns p (s.processes p))))
 
   -- ---- rounds

@@ -8,9 +8,9 @@ use Prim.Native.Nat.{ℕ, zero, suc, ◌+◌, ◌<◌}
 use native.Mathlib.Decide.{ℕ_discrete}
 use native.Mathlib.Omega.{arith}
 use lib.Dec.{eqb}
-use lib.ListN.{get_or, set, length, length_set}
-use lib.Seq.{get_or-set_same, get_or_set_other}
-use borrow.Author.Tests.{eqb_true, eqb-false, eq-eqb, ne_eqb}
+use lib.ListN.{get_or, set, length, length-set}
+use lib.Seq.{get_or-set_same, get_or-set_other}
+use borrow.Author.Tests.{eqb-true, eqb-false, eq-eqb, ne_eqb}
 use Rattle.kahn.proofs.Conds.{cond_same}
 use Rattle.kahn.proofs.Unbounded.{State, Act, goto, took, emit, seal, quit, change}
 use Rattle.process.specs.declared.Channel.{Channel}
@@ -60,7 +60,7 @@ module _ (M : Machine) where
   calm p a H h q = go (eqb q p) refl
     where
       go : (t : Bool) → eqb q p ≡ t → M.ended (cond t (a.become (H.processes q)) (H.processes q)) ≡ M.ended (H.processes q)
-      go true e = rw (eqb_true q p e) h
+      go true e = rw (eqb-true q p e) h
       go false e = refl
 
   fitted : (p : ℕ) (a : Act X W) (H : State X W) → M.Fit (a.become (H.processes p)) → ((q : ℕ) → M.Fit (H.processes q)) → (q : ℕ) → M.Fit ((change M.net p a H).processes q)
@@ -68,7 +68,7 @@ module _ (M : Machine) where
   fitted p a H v f q = go (eqb q p) refl
     where
       go : (t : Bool) → eqb q p ≡ t → M.Fit (cond t (a.become (H.processes q)) (H.processes q))
-      go true e = rw (eqb_true q p e) v
+      go true e = rw (eqb-true q p e) v
       go false e = f q
 
   -- the channels and the cells may differ at b alone
@@ -108,7 +108,7 @@ module _ (M : Machine) where
 
   -- c is not b: b's new state is none of its business
   other : (l : Board M.Store W) (H : State X W) (out : ℕ → List W) (b : ℕ) (h : Channel) (c : ℕ) → c ≢ b → LineOf l.channels l.cells H out c → LineOf (set l.channels b h) l.cells H out c
-  other l H out b h c n L = rw (get_or_set_other l.channels b c h no_channel n) L
+  other l H out b h c n L = rw (get_or-set_other l.channels b c h no_channel n) L
 
   here : (l : Board M.Store W) (H : State X W) {out : ℕ → List W} → Related l H out → (b : ℕ) (h : Channel) → b < 32 → get_or (set l.channels b h) b no_channel ≡ h
   here l H R b h i = get_or-set_same l.channels b h no_channel (omega (arith, R.many_channels))
@@ -117,7 +117,7 @@ module _ (M : Machine) where
       → Related (become M p x (put_channel M b (get_one (channel_at M l b)) l)) (change M.net p (took b (λ _. x)) H) out
   rel_took l H {out} p b x R i v w k z =
       mild l (become M p x (put_channel M b (get_one (channel_at M l b)) l)) H p b (took b (λ _. x)) R (only_took b (λ _. x)) k v
-      (M.good_place l.processes p x R.good i v) (simp length_set R.many_channels) R.many_cells (became l H R p i x v)
+      (M.good_place l.processes p x R.good i v) (simp length-set R.many_channels) R.many_cells (became l H R p i x v)
       (other l H out b (get_one (channel_at M l b)))
       (λ j. rw (here l H R b (get_one (channel_at M l b)) j, eq-eqb (receiver b) p w, eq-eqb b b refl) (simp cond_same (line_get (R.lines b j) (omega arith) z)))
 
@@ -126,7 +126,7 @@ module _ (M : Machine) where
       → Related (record { processes = ps; channels = set l.channels b (close_one (channel_at M l b)); cells = l.cells }) (change M.net p (seal b f) H) out
   rel_seal l H {out} p b f ps R w k v n s =
       mild l _ H p b (seal b f) R (only_seal b f) k v
-      n (simp length_set R.many_channels) R.many_cells s
+      n (simp length-set R.many_channels) R.many_cells s
       (other l H out b (close_one (channel_at M l b)))
       (λ j. rw (here l H R b (close_one (channel_at M l b)) j, eq-eqb (sender b) p w, eq-eqb b b refl) (simp cond_same (line_close (R.lines b j))))
 
@@ -152,13 +152,13 @@ module _ (M : Machine) where
           (λ j. rw (eq-eqb (sender b) p w, eq-eqb b b refl) (simp cond_same (line_lost L v e)))
       go false e u =
           let m = eqb-false (channel_at M l b).held (channel_at M l b).capacity u in
-          mild l _ H p b (emit b v f) R (only_emit b v f) k y n (simp length_set R.many_channels) (simp length_set R.many_cells) s
-          (λ c q K. rw (get_or_set_other l.channels b c (put_one (channel_at M l b)) no_channel q) (line_other K b (channel_at M l b).held (channel_at M l b) v q))
+          mild l _ H p b (emit b v f) R (only_emit b v f) k y n (simp length-set R.many_channels) (simp length-set R.many_cells) s
+          (λ c q K. rw (get_or-set_other l.channels b c (put_one (channel_at M l b)) no_channel q) (line_other K b (channel_at M l b).held (channel_at M l b) v q))
           (λ j. rw (here l H R b (put_one (channel_at M l b)) j, eq-eqb (sender b) p w, eq-eqb b b refl) (simp cond_same (line_put L v j R.many_cells e (omega (arith, L.room)))))
 
-  length_drop : (k p : ℕ) (hs : List Channel) → length (drop_from M k p hs) ≡ length hs
-  length_drop k p [] = refl
-  length_drop k p (h ∷ hs) = ap suc (length_drop (suc k) p hs)
+  length-drop : (k p : ℕ) (hs : List Channel) → length (drop_from M k p hs) ≡ length hs
+  length-drop k p [] = refl
+  length-drop k p (h ∷ hs) = ap suc (length-drop (suc k) p hs)
 
   drop_at : (k p : ℕ) (hs : List Channel) (j : ℕ) → j < length hs → get_or (drop_from M k p hs) j no_channel ≡ drop_one (eqb (sender (k + j)) p) (eqb (receiver (k + j)) p) (get_or hs j no_channel)
   drop_at k p [] j i = absurd (omega arith)
@@ -171,14 +171,14 @@ module _ (M : Machine) where
       record {
         good = M.good_place l.processes p x R.good i v;
         fit = fitted p (quit x) H v R.fit;
-        many_channels = length_drop 0 p l.channels ∙ R.many_channels;
+        many_channels = length-drop 0 p l.channels ∙ R.many_channels;
         many_cells = R.many_cells;
         same = became l H R p i x v;
         lines = line;
       }
     where
       ends : (q : ℕ) → eqb q p ≡ true → (q < 16) × (M.ended (cond (eqb q p) x (H.processes q)) ≡ true)
-      ends q e = (let d = eqb_true q p e in omega arith, rw e k)
+      ends q e = (let d = eqb-true q p e in omega arith, rw e k)
 
       stays : (q : ℕ) (w : Bool) → w ≡ false → M.ended (cond w x (H.processes q)) ≡ M.ended (H.processes q)
       stays q w e = rw e
@@ -193,7 +193,7 @@ module _ (M : Machine) where
   pub local : (l : Board M.Store W) (H : State X W) {out : ℕ → List W} (out' : ℕ → List W) (b : ℕ) (h : Channel) → Related l H out → ((c : ℕ) → c ≢ b → out' c ≡ out c)
       → (b < 32 → Line M.blank_w (receiver b < 16) b h l.cells (H.sent b) (H.received b) (H.closed b) (M.ended (H.processes (receiver b))) (out' b)) → Related (put_channel M b h l) H out'
   local l H {out} out' b h R u L =
-      record { good = R.good; fit = R.fit; many_channels = simp length_set R.many_channels; many_cells = R.many_cells; same = R.same; lines = λ c j. at c j (ℕ_discrete c b) }
+      record { good = R.good; fit = R.fit; many_channels = simp length-set R.many_channels; many_cells = R.many_cells; same = R.same; lines = λ c j. at c j (ℕ_discrete c b) }
     where
       at : (c : ℕ) → c < 32 → Dec (c ≡ b) → LineOf (set l.channels b h) l.cells H out' c
       at c j (yes e) = let k : b < 32 = omega arith in rw (e, here l H R b h k) (L k)

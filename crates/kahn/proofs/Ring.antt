@@ -10,7 +10,7 @@ use native.Mathlib.Decide.{ℕ_discrete}
 use native.Mathlib.Omega.{arith}
 use lib.Dec.{eqb}
 use lib.ListN.{get_or, set, length, get_elem?, get_or-append}
-use lib.Seq.{get_or-set_same, get_or_set_other, get_or_at}
+use lib.Seq.{get_or-set_same, get_or-set_other, get_or_at}
 use borrow.Author.Tests.{eq-eqb, ne_eqb}
 use Rattle.process.specs.declared.Channel.{Channel}
 use Rattle.process.specs.Channels.{get_one, put_one, slot}
@@ -21,7 +21,7 @@ module _ {A : Type 0} where
     where
       go : Dec (j ≡ k) → get_or (set xs k v) j d ≡ cond (eqb j k) v (get_or xs j d)
       go (yes e) = rw (eq-eqb j k e, e) (get_or-set_same xs k v d h)
-      go (no n) = rw (ne_eqb j k n) (get_or_set_other xs k j v d n)
+      go (no n) = rw (ne_eqb j k n) (get_or-set_other xs k j v d n)
 
   pub getElem?-lt : (l : List A) (n : ℕ) (d : A) → n < length l → get_elem? l n ≡ some (get_or l n d)
   getElem?-lt [] n d h = absurd (omega arith)
@@ -55,8 +55,8 @@ module _ {A : Type 0} where
     where
       go : Dec (i ≡ h.held) → get_or (set cells (slot c h h.held) v) (slot c h i) d ≡ get_or (s ++ (v ∷ [])) (t + i) d
       go (yes q) = rw q (get_or-set_same cells (slot c h h.held) v d (omega arith) ∙ sym (get_d_snoc s v (t + h.held) d e))
-      go (no q) = get_or_set_other cells (slot c h h.held) (slot c h i) v d (omega arith) ∙ r i (omega arith) ∙ sym (get_or-append s (v ∷ []) d (t + i) (omega arith))
+      go (no q) = get_or-set_other cells (slot c h h.held) (slot c h i) v d (omega arith) ∙ r i (omega arith) ∙ sym (get_or-append s (v ∷ []) d (t + i) (omega arith))
 
   -- the cells of another channel
   pub ring_other : (d : A) (c b : ℕ) (h h' : Channel) (cells s : List A) (t : ℕ) (v : A) → c ≢ b → Ring d c h cells s t → (n : ℕ) → Ring d c h (set cells (slot b h' n) v) s t
-  ring_other d c b h h' cells s t v q r n i l = get_or_set_other cells (slot b h' n) (slot c h i) v d (omega arith) ∙ r i l
+  ring_other d c b h h' cells s t v q r n i l = get_or-set_other cells (slot b h' n) (slot c h i) v d (omega arith) ∙ r i l

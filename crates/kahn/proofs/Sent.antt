@@ -6,7 +6,7 @@ use mathlib.Core.Option.{Option, none, some}
 use mathlib.Core.List.{List, [], ◌∷◌, ◌++◌, append-nil}
 use Prim.Native.Nat.{ℕ, ◌<◌}
 use native.Mathlib.Omega.{arith}
-use borrow.Author.Tests.{lt_ltb, eqb_true, eqb-false, eq-eqb, ne_eqb}
+use borrow.Author.Tests.{lt-ltb, eqb-true, eqb-false, eq-eqb, ne_eqb}
 use lib.Dec.{eqb}
 use lib.IntN.{ℤ}
 use lib.ListN.{get_elem?}
@@ -41,7 +41,7 @@ message : (l : List ℤ) (shut owner : Bool) (c d : ℕ) (v : ℤ) → (d ≡ c 
 message l shut owner c d v o s = at (eqb d c) refl
   where
     at : (t : Bool) → eqb d c ≡ t → cond owner (cond (eqb c d) (l ++ (v ∷ [])) l) l ≡ l ++ one (t && not shut) v
-    at true e = let q = eqb_true d c e in rw (o q, eq-eqb c d (sym q), s q)
+    at true e = let q = eqb-true d c e in rw (o q, eq-eqb c d (sym q), s q)
     at false e = rw (ne_eqb c d (λ q. eqb-false d c e (sym q))) (cond_same owner l ∙ sym (append-nil l))
 
 -- none where the channel is closed
@@ -49,7 +49,7 @@ no_message : (l : List ℤ) (shut : Bool) (c d : ℕ) (v : ℤ) → (d ≡ c →
 no_message l shut c d v s = at (eqb d c) refl
   where
     at : (t : Bool) → eqb d c ≡ t → l ≡ l ++ one (t && not shut) v
-    at true e = rw (s (eqb_true d c e)) (sym (append-nil l))
+    at true e = rw (s (eqb-true d c e)) (sym (append-nil l))
     at false e = sym (append-nil l)
 
 module _ (n : Network) (pass : passes n ≡ true) where
@@ -111,7 +111,7 @@ module _ (n : Network) (pass : passes n ≡ true) where
         at : (t : Bool) → eqb d c ≡ t → one (t && not (H.closed c)) v ≡ one (t && not (channel_at (machine_of n pass) b c).closed) v
         at true e =
             let l = (machine_of n pass).senders d (omega arith) in
-            let q = eqb_true d c e in
+            let q = eqb-true d c e in
             rw (R.lines c (omega arith)).shut
         at false e = refl
     same_message p i (close d next fault) o c = refl
@@ -136,7 +136,7 @@ module _ (n : Network) (pass : passes n ≡ true) where
         says =
             ap (λ (x : Process). message_of (wants_in n p x) (H.closed c) c) (sym (R.same p))
             ∙ same_message p (omega (arith, (passed n pass).processes_high)) (wants_in n p q) ((net_of n pass).owns p q) c
-            ∙ rw (lt_ltb p n.processes l) (want_message q shut c (instruction_for p (world_of n accepted b).lane) (ap has_ended (R.same p) ∙ live p H c a e))
+            ∙ rw (lt-ltb p n.processes l) (want_message q shut c (instruction_for p (world_of n accepted b).lane) (ap has_ended (R.same p) ∙ live p H c a e))
 
     -- ---- one call
     abbrev Adds : Call → calls.Reply → List ℤ → ℕ → Type 0
@@ -173,7 +173,7 @@ module _ (n : Network) (pass : passes n ≡ true) where
         d
         v
         (λ t. message (H.sent c) false (eqb (sender_in n c) 255) c d v
-        (λ q. eq-eqb (sender_in n c) 255 (rw (← q, lt_ltb d n.channels t.there) t.outer))
+        (λ q. eq-eqb (sender_in n c) 255 (rw (← q, lt-ltb d n.channels t.there) t.outer))
         (λ q. refl))
     sent_at_lem (calls.close d) c =
         close_cases (λ (r : Called). Adds (calls.close d) (told r.answer) [] c) (world_of n accepted b)

@@ -8,10 +8,10 @@ use mathlib.Core.List.{List, [], ◌∷◌, ◌++◌}
 use Prim.Native.Nat.{ℕ, ◌+◌, ◌*◌, ◌≤◌, ◌<◌}
 use native.Mathlib.Decide.{ℕ_discrete, dec_lt}
 use native.Mathlib.Omega.{arith}
-use borrow.Author.Tests.{lt_ltb, eqb_true, eq-eqb}
+use borrow.Author.Tests.{lt-ltb, eqb-true, eq-eqb}
 use lib.Dec.{eqb}
 use lib.IntN.{ℤ, pos}
-use lib.ListN.{length, get_or, take, drop, replicate, length_replicate, take-append-drop}
+use lib.ListN.{length, get_or, take, drop, replicate, length-replicate, take-append-drop}
 use Rattle.base.proofs.Lists.{length_values, table_at, same_at}
 use Rattle.network.specs.declared.Network.{Network}
 use Rattle.network.specs.Rules.{receiver_of, passes}
@@ -79,7 +79,7 @@ module _ (n : Network) (pass : passes n ≡ true) where
         sound = fresh_sound n pass;
         related = stands_start (machine_of n pass) (board_of (board n cells))
             (record {
-              good = record { registers = length_replicate 128 (pos 0); standings = length_replicate 16 no_standing };
+              good = record { registers = length-replicate 128 (pos 0); standings = length-replicate 16 no_standing };
               fit = λ p. refl;
               many_channels = length_values (fresh_channel n) 32 0;
               many_cells = many;
@@ -104,7 +104,7 @@ module _ (n : Network) (pass : passes n ≡ true) where
       (λ t z. at t.there t.outer _ (eqb d c) refl)
     where
       at : d < w.lane.network.channels → receiver_of w.lane.network d ≡ 255 → (v : ℤ) (t : Bool) → eqb d c ≡ t → cond t (v ∷ []) [] ≡ []
-      at there outer v true q = absurd (r (rw (← eqb_true d c q, ← e, lt_ltb d w.lane.network.channels there) outer))
+      at there outer v true q = absurd (r (rw (← eqb-true d c q, ← e, lt-ltb d w.lane.network.channels there) outer))
       at there outer v false q = refl
   no_taken (calls.relieve buffer) w e c r = refl
 

@@ -7,7 +7,7 @@ use mathlib.Core.Bool.{Bool, true, false, cond, ◌&&◌}
 use mathlib.Core.List.{List, [], ◌∷◌}
 use Prim.Native.Nat.{ℕ, suc, ◌*◌, ◌%◌, ◌<◌}
 use native.Mathlib.Omega.{arith}
-use borrow.Author.Tests.{lt_ltb, ne_eqb}
+use borrow.Author.Tests.{lt-ltb, ne_eqb}
 use lib.Dec.{eqb, ltb}
 use lib.IntN.{ℤ}
 use lib.ListN.{set}
@@ -193,7 +193,7 @@ module _ (n : Network) (pass : passes n ≡ true) where
       let k = (passed n pass).processes_high in
       let i : Instruction = instruction_for p (world_of n accepted b).lane in
       let q : Process = process_at (machine_of n pass) b p in
-      let l = lt_ltb p n.processes there in
+      let l = lt-ltb p n.processes there in
       let inside : p < 16 = omega arith in
       rw l
       (puts p (channel_in i) accepted b (ended_at (world_of n accepted b).lane (receiver_of n (channel_in i))) sized inside (want i q)
@@ -203,7 +203,7 @@ module _ (n : Network) (pass : passes n ≡ true) where
   -- channel c is there: whether its receiver has ended
   gone_is : (c accepted : ℕ) (b : Board Store ℤ) → c < n.channels
       → receiver_ended c (world_of n accepted b) ≡ has_ended (process_at (machine_of n pass) b (receiver_in n c))
-  gone_is c accepted b there = rw (lt_ltb c n.channels there)
+  gone_is c accepted b there = rw (lt-ltb c n.channels there)
 
   pub stored_is : (c : ℕ) (v : ℤ) (accepted : ℕ) (b : Board Store ℤ) → c < n.channels
       → stored c v (world_of n accepted b) ≡ world_of n accepted (store (machine_of n pass) c v b)

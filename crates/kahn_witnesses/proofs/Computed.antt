@@ -6,9 +6,9 @@ use mathlib.Core.List.{List, [], ◌∷◌}
 use Prim.Native.Nat.{ℕ, zero, suc, ◌+◌, ◌-◌, ◌<◌, ◌≤◌}
 use native.Mathlib.Omega.{arith}
 use native.Mathlib.Decide.{dec_lt}
-use borrow.Author.Tests.{ltb-true, eqb_true, eq-eqb}
+use borrow.Author.Tests.{ltb-true, eqb-true, eq-eqb}
 use lib.Dec.{eqb, ltb}
-use lib.ListN.{length, replicate, length_replicate}
+use lib.ListN.{length, replicate, length-replicate}
 use lib.IntN.{ℤ}
 use Rattle.base.specs.Tests.{in_turn}
 use Rattle.base.specs.Lists.{values, joined}
@@ -52,7 +52,7 @@ abbrev pub filled : ℤ → List ℤ
 filled v = replicate 8192 v
 
 pub many_filled : (v : ℤ) → length (filled v) ≡ 8192
-many_filled v = length_replicate {A = ℤ} 8192 v
+many_filled v = length-replicate {A = ℤ} 8192 v
 
 pub fit : (n : Network) (cells : List ℤ) → passes n ≡ true → length cells ≡ 8192 → Fit (board n cells)
 unfolding fresh_of values
@@ -62,7 +62,7 @@ fit n cells pass many = record { shaped = record { registers = refl; processes =
 pub outside_says : (n : Network) (c : ℕ) → from_outside n c ≡ true → (c < n.channels) × (sender_of n c ≡ outside)
 outside_says n c o =
     let b = both_true (ltb c n.channels) (eqb (sender_of n c) outside) o in
-    (ltb-true c n.channels b.0, eqb_true (sender_of n c) outside b.1)
+    (ltb-true c n.channels b.0, eqb-true (sender_of n c) outside b.1)
 
 -- the k channels from number c on have their senders inside
 abbrev inside_from : Network → ℕ → ℕ → Bool

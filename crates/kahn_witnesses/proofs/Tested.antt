@@ -7,7 +7,7 @@ use mathlib.Core.List.{List, [], ◌∷◌}
 use Prim.Native.Nat.{ℕ, zero, suc, ◌+◌, ◌-◌, ◌/◌, ◌%◌, ◌≤◌, ◌<◌}
 use native.Mathlib.Decide.{ℕ_discrete}
 use native.Mathlib.Omega.{arith}
-use borrow.Author.Tests.{ltb-true, leb-true, eqb_true}
+use borrow.Author.Tests.{ltb-true, leb-true, eqb-true}
 use lib.Dec.{eqb, ltb, leb}
 use lib.ListN.{length, get_or}
 use Rattle.network.specs.declared.Network.{Network}
@@ -41,8 +41,8 @@ may_differ_lem k e = at (of_capacity k) (eqb k 510) refl refl e
         let b = both_true (leb 72 k && ltb k 200) (leb 2 (k % 4)) p in
         let a = both_true (leb 72 k) (ltb k 200) b.0 in
         of_capacity_lem k (leb-true 72 k a.0) (ltb-true k 200 a.1) (leb-true 2 (k % 4) b.1)
-    at false true p q e = inr (inl (eqb_true k 510 q))
-    at false false p q e = inr (inr (eqb_true k 511 e))
+    at false true p q e = inr (inl (eqb-true k 510 q))
+    at false false p q e = inr (inr (eqb-true k 511 e))
 
 -- the bytes from place i on
 abbrev alike_from : ℕ → List ℕ → List ℕ → Bool
@@ -58,7 +58,7 @@ record AlikeFrom (i : ℕ) (f g : List ℕ) : Type 0 where
 
 same_byte : (i x y : ℕ) (s : Bool) → may_differ i ≡ s → (s || eqb x y) ≡ true → (MayDiffer i → ⊥) → x ≡ y
 same_byte i x y true p e n = absurd (n (may_differ_lem i p))
-same_byte i x y false p e n = eqb_true x y e
+same_byte i x y false p e n = eqb-true x y e
 
 alike_from_lem : (i : ℕ) (f g : List ℕ) → alike_from i f g ≡ true → AlikeFrom i f g
 alike_from_lem i [] [] e = record { long = refl; same = λ k j h q n. refl }

@@ -5,7 +5,7 @@ use mathlib.Core.Path.{◌≡◌, refl, sym, ap, ◌∙◌, subst, subst⁻¹}
 use mathlib.Core.Bool.{Bool, true, false, not, ◌&&◌, ◌||◌, false≢true}
 use mathlib.Core.List.{List, [], ◌∷◌, ◌++◌}
 use Prim.Native.Nat.{ℕ, ◌+◌, ◌<◌}
-use borrow.Author.Tests.{eqb_true}
+use borrow.Author.Tests.{eqb-true}
 use lib.Dec.{eqb}
 use lib.IntN.{ℤ}
 use lib.ListN.{length}
@@ -186,7 +186,7 @@ either false b e = e
 closing : (s : Step) (w : World) (c : ℕ) → closes_at s w c ≡ true → s ≡ call (close c)
 closing (call (pick p)) w c e = absurd (false≢true e)
 closing (call (feed d v)) w c e = absurd (false≢true e)
-closing (call (close d)) w c e = ap (λ (x : ℕ). call (close x)) (eqb_true d c (both_true (eqb d c) _ e).0)
+closing (call (close d)) w c e = ap (λ (x : ℕ). call (close x)) (eqb-true d c (both_true (eqb d c) _ e).0)
 closing (call (take d)) w c e = absurd (false≢true e)
 closing (call (relieve buffer)) w c e = absurd (false≢true e)
 closing inner_relief w c e = absurd (false≢true e)

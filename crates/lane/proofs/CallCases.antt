@@ -3,7 +3,7 @@
 use mathlib.Core.Path.{◌≡◌, refl}
 use mathlib.Core.Bool.{Bool, true, false, cond, not}
 use Prim.Native.Nat.{ℕ, ◌<◌}
-use borrow.Author.Tests.{ltb-true, eqb_true, eqb-false, not-false}
+use borrow.Author.Tests.{ltb-true, eqb-true, eqb-false, not-false}
 use lib.Dec.{eqb, ltb}
 use lib.IntN.{ℤ}
 use lib.ListN.{length}
@@ -50,7 +50,7 @@ refuse_by P true k w next stays done = stays
 refuse_by P false k w next stays done = done refl
 
 test_eq : (a b : ℕ) → not (eqb a b) ≡ false → a ≡ b
-test_eq a b e = eqb_true a b (not-false _ e)
+test_eq a b e = eqb-true a b (not-false _ e)
 
 test_lt : (a b : ℕ) → not (ltb a b) ≡ false → a < b
 test_lt a b e = ltb-true a b (not-false _ e)
@@ -101,7 +101,7 @@ module _ (P : Called → Type 0) (w : World) (stays : (k : ℕ) → P (called (r
   taken_cases : (c held : ℕ) (empty : Bool) (a : Called) → eqb held 0 ≡ empty → (held ≡ 0 → (channel_of w.lane c).closed ≡ true → P (called the_end (counting w)))
       → ((held ≡ 0 → ⊥) → P a)
       → P (cond empty (refuse (not (is_closed c w)) 12 w (called the_end (counting w))) a)
-  taken_cases c held true a e over done = refuse_by P (not (is_closed c w)) 12 w _ (stays 12) (λ shut. over (eqb_true held 0 e) (not-false _ shut))
+  taken_cases c held true a e over done = refuse_by P (not (is_closed c w)) 12 w _ (stays 12) (λ shut. over (eqb-true held 0 e) (not-false _ shut))
   taken_cases c held false a e over done = done (eqb-false held 0 e)
 
   -- a take

@@ -8,8 +8,8 @@ use Prim.Native.Nat.{ℕ, ◌<◌}
 use native.Mathlib.Omega.{arith}
 use borrow.Author.Tests.{eqb-false}
 use lib.IntN.{ℤ, pos}
-use lib.ListN.{length, set, length_set}
-use lib.Seq.{get_or_set_other}
+use lib.ListN.{length, set, length-set}
+use lib.Seq.{get_or-set_other}
 use Rattle.network.specs.Rules.{sender_of, receiver_of}
 use Rattle.process.specs.declared.Channel.{Channel}
 use Rattle.process.specs.declared.Outcome.{Outcome}
@@ -123,7 +123,7 @@ stored_kept : (w : World) (c : ℕ) (v : ℤ) → c < w.lane.network.channels �
     (cond gone w (world (put_channel c (put_one (channel_of w.lane c)) w.lane) (set w.cells (slot c (channel_of w.lane c) (channel_of w.lane c).held) v)))
 stored_kept w c v b true e room = unchanged w
 stored_kept w c v b false e room =
-    operated w c (put_one (channel_of w.lane c)) _ b (length_set w.cells _ v)
+    operated w c (put_one (channel_of w.lane c)) _ b (length-set w.cells _ v)
     (λ s. put_one_lem _ _ (channel_of w.lane c) (s.channels c b) e (eqb-false _ _ room))
 
 module _ (w : World) where
@@ -159,7 +159,7 @@ module _ (w : World) (c : ℕ) where
   stored_other : (v : ℤ) (gone : Bool) (k : ℕ) → (k ≡ message_cell → ⊥)
       → cell_at (cond gone w (world (put_channel c (put_one (channel_of w.lane c)) w.lane) (set w.cells message_cell v))) k ≡ cell_at w k
   stored_other v true k n = refl
-  stored_other v false k n = get_or_set_other w.cells message_cell k v (pos 0) n
+  stored_other v false k n = get_or-set_other w.cells message_cell k v (pos 0) n
 
   -- a feed: every cell but that one
   pub feed_other_cells : (v : ℤ) (k : ℕ) → (k ≡ slot c (channel_of w.lane c) (channel_of w.lane c).held → ⊥) → cell_at (feed_of c v w).world k ≡ cell_at w k

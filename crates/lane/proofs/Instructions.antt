@@ -4,7 +4,7 @@ use mathlib.Core.Path.{◌≡◌, subst⁻¹}
 use mathlib.Core.Bool.{true, not, ◌||◌}
 use Prim.Native.Nat.{ℕ, ◌+◌, ◌<◌}
 use native.Mathlib.Omega.{arith}
-use borrow.Author.Tests.{lt_ltb, eq-eqb, eqb_true}
+use borrow.Author.Tests.{lt-ltb, eq-eqb, eqb-true}
 use lib.Dec.{eqb}
 use Rattle.base.specs.declared.Verdict.TheVariants.{Good}
 use Rattle.base.specs.Tests.{need}
@@ -39,7 +39,7 @@ pub record Right (n : Network) (p position : ℕ) (i : Instruction) : Type 0 whe
 pub right_stands : (n : Network) (p position : ℕ) (i : Instruction) → Right n p position i
     → stands_right (eqb (position + 1) (count_of n p)) (count_of n p) (receives n p i.b) (sends n p i.b) i ≡ true
 unfolding stands_right
-right_stands n p position i r = rw (r.fields, implies (eqb (position + 1) (count_of n p)) _ (λ e. r.last (eqb_true _ _ e)))
+right_stands n p position i r = rw (r.fields, implies (eqb (position + 1) (count_of n p)) _ (λ e. r.last (eqb-true _ _ e)))
 
 right_is : (n : Network) (p k : ℕ) → instruction_right n p (start_of n p + k) ≡ true → Right n p k (instruction_of n (start_of n p + k))
 unfolding instruction_right stands_right
@@ -53,7 +53,7 @@ right_is n p k e =
 -- the instruction at which process p stands
 stands_at_lem : (n : Network) (p position : ℕ) → position < count_of n p → stands_at n p position ≡ instruction_of n (start_of n p + position)
 unfolding stands_at
-stands_at_lem n p position m = rw (lt_ltb position (count_of n p) m)
+stands_at_lem n p position m = rw (lt-ltb position (count_of n p) m)
 
 pub stands_right_lem : (l : Lane) → Sound l → (p : ℕ) → p < l.network.processes → Right l.network p (standing_of l p).position (instruction_for p l)
 stands_right_lem l s p b =

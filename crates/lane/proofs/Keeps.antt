@@ -6,7 +6,7 @@ use mathlib.Core.List.{List, [], ◌∷◌}
 use Prim.Native.Nat.{ℕ, zero, suc, ◌+◌, ◌*◌, ◌≤◌, ◌<◌}
 use native.Mathlib.Nat.{le_of_suc-le-suc, not-suc-le-zero, add-zero, zero-add}
 use native.Mathlib.Omega.{arith}
-use borrow.Author.Tests.{lt_ltb, le-ltb, eq-eqb}
+use borrow.Author.Tests.{lt-ltb, le-ltb, eq-eqb}
 use lib.IntN.{pos}
 use lib.ListN.{length, get_or, set}
 use Rattle.network.specs.declared.Network.{Network}
@@ -180,12 +180,12 @@ module _ (p : ℕ) (q : Process) (l : Lane) (shaped : Shaped l) (s : Sound l) (b
         shut =
             after_set (λ (x : Standing). is_ended x.condition ≡ true → cond (sends n p k) true h.closed ≡ true) l.processes p (sender_of n k) (split q)
             no_standing
-            (λ e t. rw (lt_ltb k n.channels m, eq-eqb (sender_of n k) p e))
+            (λ e t. rw (lt-ltb k n.channels m, eq-eqb (sender_of n k) p e))
             (λ t. closed_stays (sends n p k) h.closed (old.shut t));
         drained =
             after_set (λ (x : Standing). is_ended x.condition ≡ true → cond (receives n p k) 0 h.held ≡ 0) l.processes p (receiver_of n k) (split q)
             no_standing
-            (λ e t. rw (lt_ltb k n.channels m, eq-eqb (receiver_of n k) p e))
+            (λ e t. rw (lt-ltb k n.channels m, eq-eqb (receiver_of n k) p e))
             (λ t. empty_stays (receives n p k) h.held (old.drained t));
       }
 

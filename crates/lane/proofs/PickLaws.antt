@@ -8,8 +8,8 @@ use native.Mathlib.Omega.{arith}
 use borrow.Author.Tests.{le-ltb}
 use lib.Dec.{eqb, ltb}
 use lib.IntN.{ℤ, pos}
-use lib.ListN.{length, set, length_set}
-use lib.Seq.{set-get_or, get_or_set_other}
+use lib.ListN.{length, set, length-set}
+use lib.Seq.{set-get_or, get_or-set_other}
 use Rattle.network.specs.declared.Instruction.{Instruction}
 use Rattle.network.specs.declared.Network.{Network}
 use Rattle.network.specs.Rules.{count_of, sender_of, receiver_of, receives, sends}
@@ -158,7 +158,7 @@ module _ (p : ℕ) (w : World) where
 
   -- the number of cells
   pub pick_cells : length (pick_in p w).cells ≡ length w.cells
-  pick_cells = pick_by (λ (x : World). length x.cells ≡ length w.cells) p w (λ e. refl) (λ v e. length_set w.cells _ v) (λ e. refl)
+  pick_cells = pick_by (λ (x : World). length x.cells ≡ length w.cells) p w (λ e. refl) (λ v e. length-set w.cells _ v) (λ e. refl)
 
   -- the lengths of the lane's arrays
   pub pick_shaped : Shaped w.lane → Shaped (pick_in p w).lane
@@ -169,7 +169,7 @@ module _ (p : ℕ) (w : World) where
   -- every cell but the one that a message goes to
   pub pick_other_cells : (k : ℕ) → (k ≡ cell_for p w.lane → ⊥) → cell_at (pick_in p w) k ≡ cell_at w k
   pick_other_cells k n =
-      pick_by (λ (x : World). cell_at x k ≡ cell_at w k) p w (λ e. refl) (λ v e. get_or_set_other w.cells (cell_for p w.lane) k v (pos 0) n) (λ e. refl)
+      pick_by (λ (x : World). cell_at x k ≡ cell_at w k) p w (λ e. refl) (λ v e. get_or-set_other w.cells (cell_for p w.lane) k v (pos 0) n) (λ e. refl)
 
   -- all cells, unless a message was sent
   pub pick_same_cells : ((v : ℤ) → (step_for p w).outcome ≡ Sent v → ⊥) → (pick_in p w).cells ≡ w.cells

@@ -3,7 +3,7 @@
 use mathlib.Core.Path.{◌≡◌, refl, ap, ◌∙◌}
 use mathlib.Core.List.{List, [], ◌∷◌}
 use Prim.Native.Nat.{ℕ, suc}
-use lib.ListN.{length, length_set}
+use lib.ListN.{length, length-set}
 use Rattle.network.specs.declared.Network.{Network}
 use Rattle.process.specs.Process.{Process}
 use Rattle.process.specs.declared.Channel.{Channel}
@@ -18,13 +18,13 @@ pub put_process_shaped : (p : ℕ) (q : Process) (l : Lane) → Shaped l → Sha
 put_process_shaped p q l s =
     record {
       registers = length_put l.registers _ q.registers ∙ s.registers;
-      processes = length_set l.processes p _ ∙ s.processes;
+      processes = length-set l.processes p _ ∙ s.processes;
       channels = s.channels;
     }
 
 -- a channel put back
 pub put_channel_shaped : (c : ℕ) (h : Channel) (l : Lane) → Shaped l → Shaped (put_channel c h l)
-put_channel_shaped c h l s = record { registers = s.registers; processes = s.processes; channels = length_set l.channels c h ∙ s.channels }
+put_channel_shaped c h l s = record { registers = s.registers; processes = s.processes; channels = length-set l.channels c h ∙ s.channels }
 
 -- as many channels as before
 pub length_drop_from : (n : Network) (p c : ℕ) (hs : List Channel) → length (drop_from n p c hs) ≡ length hs

@@ -4,12 +4,12 @@ use mathlib.Core.Path.{◌≡◌, refl, sym, ap, ◌∙◌}
 use mathlib.Core.Bool.{Bool, true, false, not, ◌&&◌, ◌||◌, false≢true}
 use mathlib.Core.List.{List}
 use Prim.Native.Nat.{ℕ, zero, suc, ◌+◌, ◌-◌, ◌*◌, ◌%◌, ◌≤◌, ◌<◌}
-use borrow.Author.Tests.{ltb-true, lt_ltb, le-ltb, leb-true, le-leb, eqb_true, eq-eqb, not-true}
+use borrow.Author.Tests.{ltb-true, lt-ltb, le-ltb, leb-true, le-leb, eqb-true, eq-eqb, not-true}
 use native.Mathlib.Decide.{dec_lt}
 use native.Mathlib.Omega.{arith}
 use lib.Dec.{eqb, ltb, leb}
 use lib.IntN.{ℤ, pos, negsuc}
-use lib.ListN.{length, get_or, get_or_eq_default}
+use lib.ListN.{length, get_or, get_or-eq_default}
 use Rattle.base.specs.Tests.{first_bad, is_good}
 use Rattle.base.proofs.Tests.{each, each_true, all_true}
 use Rattle.base.proofs.Lists.{table_at, same_at}
@@ -74,7 +74,7 @@ channel_says s r h e =
       reached = leb-true _ _ m.1;
       topped = leb-true _ _ t.1;
       shut = implied s _ c.1;
-      drained = λ q. eqb_true _ _ (implied r _ d.1 q);
+      drained = λ q. eqb-true _ _ (implied r _ d.1 q);
     }
 
 pub says_channel : (s r : Bool) (h : Channel) → ChannelSound s r h → channel_sound s r h ≡ true
@@ -109,7 +109,7 @@ pub standing_zero_lem : (s : Standing) → standing_zero s ≡ true → s ≡ no
 standing_zero_lem s e =
     let m = both_true _ (eqb s.moves 0) e in
     let d = both_true (eqb s.position 0) (not (is_ended s.condition)) m.0 in
-    standing_is _ _ _ (eqb_true _ _ d.0) (not_ended _ (not-true _ d.1)) (eqb_true _ _ m.1)
+    standing_is _ _ _ (eqb-true _ _ d.0) (not_ended _ (not-true _ d.1)) (eqb-true _ _ m.1)
 
 channel_is : (capacity oldest held peak : ℕ) (closed : Bool) → capacity ≡ 0 → oldest ≡ 0 → held ≡ 0 → peak ≡ 0 → closed ≡ false
     → channel capacity oldest held peak closed ≡ no_channel
@@ -121,7 +121,7 @@ channel_zero_lem h e =
     let t = both_true _ (eqb h.peak 0) c.0 in
     let m = both_true _ (eqb h.held 0) t.0 in
     let o = both_true (eqb h.capacity 0) (eqb h.oldest 0) m.0 in
-    channel_is _ _ _ _ _ (eqb_true _ _ o.0) (eqb_true _ _ o.1) (eqb_true _ _ m.1) (eqb_true _ _ t.1) (not-true _ c.1)
+    channel_is _ _ _ _ _ (eqb-true _ _ o.0) (eqb-true _ _ o.1) (eqb-true _ _ m.1) (eqb-true _ _ t.1) (not-true _ c.1)
 
 pub null_is : (z : ℤ) → is_null z ≡ true → z ≡ pos 0
 null_is (pos zero) e = refl
@@ -133,8 +133,8 @@ pub ended_at_lem : (s : List Standing) → length s ≡ 16 → (e : ℕ) → (lt
 ended_at_lem s long e = go (dec_lt e 16)
   where
     go : Dec (e < 16) → (ltb e 16 && is_ended (get_or s (e % 16) no_standing).condition) ≡ is_ended (get_or s e no_standing).condition
-    go (yes h) = let q : e % 16 ≡ e = omega arith in rw (lt_ltb e 16 h, q)
-    go (no h) = rw (le-ltb e 16 (omega arith), get_or_eq_default s no_standing {n = e} (omega arith))
+    go (yes h) = let q : e % 16 ≡ e = omega arith in rw (lt-ltb e 16 h, q)
+    go (no h) = rw (le-ltb e 16 (omega arith), get_or-eq_default s no_standing {n = e} (omega arith))
 
 -- ---- a lane
 pub record Sound (l : Lane) : Type 0 where
@@ -173,7 +173,7 @@ unfolding sound_of
 says_sound l s =
     rw (
       s.passed,
-      each_at (position_sound l) 0 l.network.processes (λ k h m. lt_ltb _ _ (s.positions k (omega arith))),
+      each_at (position_sound l) 0 l.network.processes (λ k h m. lt-ltb _ _ (s.positions k (omega arith))),
       each_at (channel_sound_at l) 0 l.network.channels (λ k h m. says_channel _ _ _ (s.channels k (omega arith))),
       each_at (λ p. standing_zero (standing_of l p)) l.network.processes (16 - l.network.processes)
           (λ k h m. ap standing_zero (s.standings k h (omega arith))),
@@ -201,7 +201,7 @@ module _ (n : Network) (e : passes n ≡ true) where
   unfolding unused_records
   capacity_zero c h l =
       let r = each_true (record_zero n) n.channels (32 - n.channels) (passed n e).unused_records_good c h (omega arith) in
-      eqb_true _ _ (both_true (eqb (sender_of n c) 0 && eqb (receiver_of n c) 0) (eqb (capacity_of n c) 0) r).1
+      eqb-true _ _ (both_true (eqb (sender_of n c) 0 && eqb (receiver_of n c) 0) (eqb (capacity_of n c) 0) r).1
 
   -- a process that has not ended
   live : (p : ℕ) → ended_at (fresh_of n) p ≡ true → ⊥

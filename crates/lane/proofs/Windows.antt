@@ -6,8 +6,8 @@ use native.Mathlib.Numerals.{towards_suc}
 use mathlib.Core.Path.{◌≡◌, refl, ap, ◌∙◌}
 use mathlib.Core.List.{List, ◌∷◌, ◌++◌, append_assoc}
 use lib.IntN.{ℤ, pos}
-use lib.ListN.{length, set, take, drop, length_append, length_drop, length_set, take-append-drop}
-use lib.Seq.{drop-cons, drop-drop, take_all, sets, sets-eq, get_or_set_other, length-take-le, drop_at, take_at, take-set-le, take-set-lt, drop-set-lt, drop-set-add}
+use lib.ListN.{length, set, take, drop, length-append, length-drop, length-set, take-append-drop}
+use lib.Seq.{drop-cons, drop-drop, take_all, sets, sets-eq, get_or-set_other, length-take-le, drop_at, take_at, take-set-le, take-set-lt, drop-set-lt, drop-set-add}
 use Rattle.process.specs.Window.{at, eight, put_eight}
 
 next_of : (n : ℕ) (xs : List ℤ) (b : ℕ) → b < length xs → take (suc n) (drop b xs) ≡ at xs b ∷ take n (drop (suc b) xs)
@@ -50,7 +50,7 @@ put_is xs b r e h =
 
 -- the file keeps its length
 pub length_put : (xs : List ℤ) (b : ℕ) (r : List ℤ) → length (put_eight xs b r) ≡ length xs
-length_put xs b r = simp length_set
+length_put xs b r = simp length-set
 
 -- a register of another process is as it was
 pub put_other : (xs : List ℤ) (p : ℕ) (r : List ℤ) (j : ℕ) → (j / 8 ≡ p → ⊥) → at (put_eight xs (8 * p) r) j ≡ at xs j
@@ -63,7 +63,7 @@ put_other xs p r j h =
     let n5 : j ≡ 8 * p + 5 → ⊥ = λ e. h (omega arith) in
     let n6 : j ≡ 8 * p + 6 → ⊥ = λ e. h (omega arith) in
     let n7 : j ≡ 8 * p + 7 → ⊥ = λ e. h (omega arith) in
-    simp get_or_set_other
+    simp get_or-set_other
 
 -- the registers of another process are as they were
 pub eight_put_other : (xs : List ℤ) (p p' : ℕ) (r : List ℤ) → (p ≡ p' → ⊥) → eight (put_eight xs (8 * p) r) (8 * p') ≡ eight xs (8 * p')
@@ -85,7 +85,7 @@ pub eight_put : (xs : List ℤ) (b : ℕ) (r : List ℤ) → length r ≡ 8 → 
 eight_put xs b r e h =
     let l : length (take b xs) ≡ b = length-take-le b xs (omega arith) in
     rw (put_is xs b r e h)
-    (eight_is (take b xs ++ r ++ drop (b + 8) xs) b (simp (length_append, length_drop) (omega arith))
+    (eight_is (take b xs ++ r ++ drop (b + 8) xs) b (simp (length-append, length-drop) (omega arith))
     ∙ rw (append_assoc, drop_at (take b xs) (r ++ drop (b + 8) xs) b l, take_at r (drop (b + 8) xs) 8 e))
 
 parts : (xs : List ℤ) (b : ℕ) → take b xs ++ take 8 (drop b xs) ++ drop (b + 8) xs ≡ xs
@@ -97,7 +97,7 @@ put_eight_lem xs b h = put_is xs b (eight xs b) (eight_long xs b) h ∙ rw (eigh
 
 put_changed : (xs : List ℤ) (b a : ℕ) (v : ℤ) (r : List ℤ) → r ≡ take 8 (drop b xs) → length r ≡ 8 → a < 8 → b + 8 ≤ length xs → put_eight xs b (set r a v) ≡ set xs (b + a) v
 put_changed xs b a v r e n l h =
-    put_is xs b (set r a v) (length_set r a v ∙ n) h
+    put_is xs b (set r a v) (length-set r a v ∙ n) h
     ∙ rw (
       e,
       ← take-set-lt 8 (drop b xs) a v l,

@@ -6,7 +6,7 @@ use mathlib.Core.List.{List, [], ◌∷◌, ◌++◌}
 use Prim.Native.Nat.{ℕ, zero, suc, ◌+◌, ◌-◌, ◌*◌, ◌/◌, ◌%◌, ◌≤◌, ◌<◌}
 use native.Mathlib.Decide.{dec_lt}
 use native.Mathlib.Omega.{arith}
-use borrow.Author.Tests.{eqb_true, eq-eqb}
+use borrow.Author.Tests.{eqb-true, eq-eqb}
 use lib.Dec.{eqb}
 use lib.ListN.{length, get_or, take, drop}
 use Rattle.base.specs.declared.Verdict.TheVariants.{Good}
@@ -37,7 +37,7 @@ unfolding unused_slots
 slot_zero_lem n g p q a b =
     let z = both_true (eqb (start_of n p) 0) (eqb (count_of n p) 0)
     (each_true (slot_zero n) n.processes (16 - n.processes) g p a (omega arith)) in
-    ap₂ (λ (a b : ℕ). get_or (two_bytes a ++ two_bytes b) q 0) (eqb_true (start_of n p) 0 z.0) (eqb_true (count_of n p) 0 z.1) ∙ four_zeros q
+    ap₂ (λ (a b : ℕ). get_or (two_bytes a ++ two_bytes b) q 0) (eqb-true (start_of n p) 0 z.0) (eqb-true (count_of n p) 0 z.1) ∙ four_zeros q
 
 pub record_zero_lem : (n : Network) → unused_records n ≡ Good → (c q : ℕ) → n.channels ≤ c → c < 32 → get_or (record_of n c) q 0 ≡ 0
 unfolding unused_records
@@ -45,8 +45,8 @@ record_zero_lem n g c q a b =
     let z = both_true (eqb (sender_of n c) 0 && eqb (receiver_of n c) 0) (eqb (capacity_of n c) 0)
     (each_true (record_zero n) n.channels (32 - n.channels) g c a (omega arith)) in
     let y = both_true (eqb (sender_of n c) 0) (eqb (receiver_of n c) 0) z.0 in
-    ap₂ (λ (a b : ℕ). get_or (a ∷ b ∷ two_bytes (capacity_of n c)) q 0) (eqb_true (sender_of n c) 0 y.0) (eqb_true (receiver_of n c) 0 y.1)
-    ∙ ap (λ (a : ℕ). get_or (0 ∷ 0 ∷ two_bytes a) q 0) (eqb_true (capacity_of n c) 0 z.1)
+    ap₂ (λ (a b : ℕ). get_or (a ∷ b ∷ two_bytes (capacity_of n c)) q 0) (eqb-true (sender_of n c) 0 y.0) (eqb-true (receiver_of n c) 0 y.1)
+    ∙ ap (λ (a : ℕ). get_or (0 ∷ 0 ∷ two_bytes a) q 0) (eqb-true (capacity_of n c) 0 z.1)
     ∙ four_zeros q
 
 module _ (n : Network) (s : List ℕ) (h : Holds n s) (passed : Passed n) where

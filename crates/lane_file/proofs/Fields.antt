@@ -5,8 +5,8 @@ use mathlib.Core.List.{List}
 use Prim.Native.Nat.{ℕ, ◌+◌, ◌-◌, ◌*◌, ◌/◌, ◌%◌, ◌≤◌, ◌<◌}
 use native.Mathlib.Decide.{dec_lt}
 use native.Mathlib.Omega.{arith}
-use borrow.Author.Tests.{eqb_true}
-use lib.ListN.{get_or, get_or_eq_default}
+use borrow.Author.Tests.{eqb-true}
+use lib.ListN.{get_or, get_or-eq_default}
 use Rattle.base.proofs.Tests.{each_true}
 use Rattle.base.specs.declared.Verdict.TheVariants.{Good}
 use Rattle.base.specs.Lists.{word_at}
@@ -76,7 +76,7 @@ same_network m n p c f k s r a d =
 -- unused code is zero
 pub code_zero : (n : Network) → unused_code n ≡ Good → (j : ℕ) → 4 * total n ≤ j → j < 4064 → get_or n.code j 0 ≡ 0
 unfolding unused_code
-code_zero n g j a b = eqb_true (get_or n.code j 0) 0 (each_true (is_zero n.code) (4 * total n) (4064 - 4 * total n) g j a (omega arith))
+code_zero n g j a b = eqb-true (get_or n.code j 0) 0 (each_true (is_zero n.code) (4 * total n) (4064 - 4 * total n) g j a (omega arith))
 
 -- a number of two bytes
 pub word_is : (s : List ℕ) (k x : ℕ) → get_or s k 0 ≡ x / 256 → get_or s (k + 1) 0 ≡ x % 256 → word_at s k ≡ x
@@ -117,7 +117,7 @@ module _ (n : Network) (s : List ℕ) (h : Holds n s) where
           ∙ h.code (j / 508) (j % 508) m (omega arith)
           ∙ same_place n.code (508 * (j / 508) + j % 508) j (omega arith)
       go (no m) =
-          get_or_eq_default s 0 (omega (arith, h.long)) ∙ sym (code_zero n passed.unused_code_good j (omega arith) l)
+          get_or-eq_default s 0 (omega (arith, h.long)) ∙ sym (code_zero n passed.unused_code_good j (omega arith) l)
 
   pub network_is : Shaped n → Passed n → network_of s ≡ n
   unfolding network_of

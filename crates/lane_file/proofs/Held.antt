@@ -6,9 +6,9 @@ use mathlib.Core.List.{List}
 use Prim.Native.Nat.{ℕ, zero, suc, ◌+◌, ◌-◌, ◌*◌, ◌/◌, ◌%◌, ◌≤◌, ◌<◌}
 use native.Mathlib.Decide.{dec_lt}
 use native.Mathlib.Omega.{arith}
-use borrow.Author.Tests.{eqb_true, eq-eqb}
+use borrow.Author.Tests.{eqb-true, eq-eqb}
 use lib.Dec.{eqb}
-use lib.ListN.{length, get_or, take, drop, get_or_eq_default}
+use lib.ListN.{length, get_or, take, drop, get_or-eq_default}
 use Rattle.base.specs.declared.Verdict.TheVariants.{Good}
 use Rattle.base.specs.Lists.{word_at, two_bytes}
 use Rattle.base.specs.Tests.{need, is_zero}
@@ -46,10 +46,10 @@ module _ (s : List ℕ) (bytes : Bytes s) (v : Seven s (network_of s)) where
   whole =
       let a = both_true (eqb (length s % 512) 0) _ v.length_right_lem in
       let b = between_true 2 (length s / 512) 9 a.1 in
-      (eqb_true (length s % 512) 0 a.0, b.0, b.1)
+      (eqb-true (length s % 512) 0 a.0, b.0, b.1)
 
   blocks_are : get_or s 5 0 ≡ blocks_of (network_of s)
-  blocks_are = eqb_true (get_or s 5 0) (blocks_of (network_of s)) (need_true _ 16 slots_facts.1)
+  blocks_are = eqb-true (get_or s 5 0) (blocks_of (network_of s)) (need_true _ 16 slots_facts.1)
 
   sized : blocks s ≡ blocks_of (network_of s) + 1
   sized = omega (arith, whole, blocks_are, header_facts.at_5)
@@ -113,7 +113,7 @@ module _ (s : List ℕ) (bytes : Bytes s) (v : Seven s (network_of s)) where
   check_at k q hk hq =
       same_place s (512 * k + (510 + q)) (512 * k + 510 + q) (omega arith)
       ∙ word_bytes s bytes (512 * k + 510) (crc (take 510 (drop (512 * k) s)))
-      (sym (eqb_true (word_at s (512 * k + 510)) (crc (take 510 (drop (512 * k) s))) (checked_at k (omega (arith, sized))))) q hq
+      (sym (eqb-true (word_at s (512 * k + 510)) (crc (take 510 (drop (512 * k) s))) (checked_at k (omega (arith, sized))))) q hq
 
   pub read_holds : Holds (network_of s) s
   read_holds =
@@ -158,7 +158,7 @@ module _ (s : List ℕ) (bytes : Bytes s) (v : Seven s (network_of s)) where
     where
       go : Dec (1 + j / 508 < blocks s) → get_or s (code_place j) 0 ≡ 0
       go (yes l) = (rest_facts.code (1 + j / 508) (omega arith) l).zeros (code_place j) (omega arith) (omega arith)
-      go (no l) = get_or_eq_default s 0 (omega (arith, whole))
+      go (no l) = get_or-eq_default s 0 (omega (arith, whole))
 
   unused_code_lem : unused_code (network_of s) ≡ Good
   unfolding unused_code

@@ -6,10 +6,10 @@ use mathlib.Core.List.{List, [], ◌∷◌, ◌++◌}
 use Prim.Native.Nat.{ℕ, zero, suc, ◌+◌, ◌-◌, ◌*◌, ◌≤◌, ◌<◌}
 use native.Mathlib.Decide.{dec_lt}
 use native.Mathlib.Omega.{arith}
-use borrow.Author.Tests.{ltb-true, eqb_true}
+use borrow.Author.Tests.{ltb-true, eqb-true}
 use lib.Bits.{bit_xor, xor_lt}
 use lib.Dec.{ltb, eqb}
-use lib.ListN.{length, get_or, take, drop, get_or_eq_default}
+use lib.ListN.{length, get_or, take, drop, get_or-eq_default}
 use lib.Seq.{get_or-take, get_or-drop}
 use Rattle.base.specs.Lists.{two_bytes}
 use Rattle.base.specs.Tests.{between}
@@ -62,7 +62,7 @@ end_byte e processes h t = go (ltb e processes) refl t
   where
     go : (b : Bool) → ltb e processes ≡ b → (b || eqb e outside) ≡ true → e < 256
     go true l t = omega (arith, ltb-true e processes l)
-    go false l t = omega (arith, eqb_true e outside t)
+    go false l t = omega (arith, eqb-true e outside t)
 
 module _ (n : Network) (passed : Passed n) where
   header_byte : (r : ℕ) → get_or (header_of n) r 0 < 256
@@ -136,7 +136,7 @@ module _ (n : Network) (passed : Passed n) (bytes : Bytes n.code) (s : List ℕ)
     where
       go : Dec (i < 510) → get_or (take 510 (drop (512 * k) s)) i 0 < 256
       go (yes m) = omega (arith, get_or-take 510 (drop (512 * k) s) i 0 m, get_or-drop (512 * k) s i 0, body_byte k i l m)
-      go (no m) = omega (arith, get_or_eq_default (take 510 (drop (512 * k) s)) 0 {n = i} (omega (arith, length_part s (512 * k) 510 (omega (arith, h.long)))))
+      go (no m) = omega (arith, get_or-eq_default (take 510 (drop (512 * k) s)) 0 {n = i} (omega (arith, length_part s (512 * k) 510 (omega (arith, h.long)))))
 
   check_byte : (k q : ℕ) → k < blocks_of n + 1 → q < 2 → Byte (512 * k + (510 + q))
   check_byte k q l m =
@@ -148,4 +148,4 @@ module _ (n : Network) (passed : Passed n) (bytes : Bytes n.code) (s : List ℕ)
     where
       go : Dec (j < length s) → get_or s j 0 < 256
       go (yes l) = all_places (blocks_of n) Byte body_byte check_byte j (omega (arith, h.long))
-      go (no l) = omega (arith, get_or_eq_default s 0 {n = j} (omega arith))
+      go (no l) = omega (arith, get_or-eq_default s 0 {n = j} (omega arith))

@@ -5,7 +5,7 @@ use mathlib.Core.List.{List, ◌++◌}
 use Prim.Native.Nat.{ℕ, zero, suc, ◌+◌, ◌*◌, ◌≤◌, ◌<◌}
 use native.Mathlib.Nat.{not-suc-le-zero}
 use native.Mathlib.Omega.{arith}
-use lib.ListN.{length, get_or, take, drop, length_append, length-take, length_drop, get_or-append}
+use lib.ListN.{length, get_or, take, drop, length-append, length-take, length-drop, get_or-append}
 use lib.Seq.{get_or-append-add, ext_get_or, get_or-take, get_or-drop}
 use Rattle.base.specs.Lists.{joined}
 
@@ -24,7 +24,7 @@ module _ {A : Type 0} (f : ℕ → List A) (w : ℕ) where
   length_joined (suc n) i g =
       let h : length (f i) ≡ w = g i (omega arith) (omega arith) in
       let t : length (joined f (suc i) n) ≡ w * n = length_joined n (suc i) (λ p a b. g p (omega arith) (omega arith)) in
-      length_append (f i) (joined f (suc i) n) ∙ omega arith
+      length-append (f i) (joined f (suc i) n) ∙ omega arith
 
   pub joined_from : (n i : ℕ) (d : A) → ((p : ℕ) → i ≤ p → p < i + n → length (f p) ≡ w) → (p r : ℕ) → p < n → r < w
       → get_or (joined f i n) (w * p + r) d ≡ get_or (f (i + p)) r d
@@ -50,7 +50,7 @@ module _ {A : Type 0} (f : ℕ → List A) (w : ℕ) where
 
 -- the length of a part that a list has
 pub length_part : (s : List ℕ) (a n : ℕ) → a + n ≤ length s → length (take n (drop a s)) ≡ n
-length_part s a n h = simp (length-take, length_drop) (omega arith)
+length_part s a n h = simp (length-take, length-drop) (omega arith)
 
 -- a part of a list is known by its elements
 pub part_is : (s b : List ℕ) (a n : ℕ) → length b ≡ n → a + n ≤ length s → ((r : ℕ) → r < n → get_or s (a + r) 0 ≡ get_or b r 0)

@@ -5,11 +5,11 @@ use mathlib.Core.Bool.{cond}
 use mathlib.Core.List.{List, ◌++◌}
 use Prim.Native.Nat.{ℕ, zero, suc, ◌+◌, ◌-◌, ◌*◌, ◌/◌, ◌%◌, ◌≤◌, ◌<◌}
 use native.Mathlib.Decide.{dec_lt}
-use native.Mathlib.Numerals.{add_one}
+use native.Mathlib.Numerals.{add-one}
 use native.Mathlib.Omega.{arith}
 use borrow.Author.Tests.{ne_eqb}
 use lib.Dec.{eqb}
-use lib.ListN.{length, get_or, take, drop, replicate, length_append, length_replicate, get_or_replicate, get_or-append}
+use lib.ListN.{length, get_or, take, drop, replicate, length-append, length-replicate, get_or-replicate, get_or-append}
 use lib.Seq.{get_or-take, get_or-drop}
 use Rattle.base.specs.Lists.{joined, two_bytes}
 use Rattle.block_check.specs.Crc.{crc}
@@ -61,7 +61,7 @@ module _ (blocks : ℕ) (P : ℕ → Type 0) where
   pub body_places : ((r : ℕ) → r < 510 → P r) → ((k r : ℕ) → k < blocks → r < 508 → P (512 * (k + 1) + r))
       → ((k q : ℕ) → k < blocks → q < 2 → P (512 * (k + 1) + (508 + q))) → (k r : ℕ) → k < blocks + 1 → r < 510 → P (512 * k + r)
   body_places a b c zero r hk hr = subst P (omega arith) (a r hr)
-  body_places a b c (suc k) r hk hr = rw (← add_one k) (code_places b c k r (omega arith) hr)
+  body_places a b c (suc k) r hk hr = rw (← add-one k) (code_places b c k r (omega arith) hr)
 
   pub all_places : ((k r : ℕ) → k < blocks + 1 → r < 510 → P (512 * k + r)) → ((k q : ℕ) → k < blocks + 1 → q < 2 → P (512 * k + (510 + q)))
       → (j : ℕ) → j < 512 * (blocks + 1) → P j
@@ -88,7 +88,7 @@ record Parts (s a b c e : List ℕ) : Type 0 where
 parts : (a b c e : List ℕ) → length a ≡ 8 → length b ≡ 64 → length c ≡ 128 → length e ≡ 310 → Parts (a ++ (b ++ (c ++ e))) a b c e
 parts a b c e ea eb ec ee =
     record {
-      long = simp length_append (omega arith);
+      long = simp length-append (omega arith);
       at_a = λ r h. get_or-append a (b ++ (c ++ e)) 0 r (omega arith);
       at_b = λ r h. past a (b ++ (c ++ e)) 8 r 0 ea ∙ get_or-append b (c ++ e) 0 r (omega arith);
       at_c = λ r h.
@@ -110,7 +110,7 @@ module _ (n : Network) where
       parts (header_of n) (joined (slot_of n) 0 16) (joined (record_of n) 0 32) (replicate 310 0) refl
       (length_joined (slot_of n) 4 16 0 (λ p a b. refl))
       (length_joined (record_of n) 4 32 0 (λ p a b. refl))
-      (length_replicate {A = ℕ} 310 0)
+      (length-replicate {A = ℕ} 310 0)
 
   first_slot : (p q : ℕ) → p < 16 → q < 4 → get_or (first_block n) (8 + (4 * p + q)) 0 ≡ get_or (slot_of n p) q 0
   first_slot p q hp hq = first_parts.at_b (4 * p + q) (omega arith) ∙ joined_at (slot_of n) 4 16 0 (λ p h. refl) p q hp hq
@@ -119,7 +119,7 @@ module _ (n : Network) where
   first_channel c q hc hq = first_parts.at_c (4 * c + q) (omega arith) ∙ joined_at (record_of n) 4 32 0 (λ c h. refl) c q hc hq
 
   first_zeros : (r : ℕ) → r < 310 → get_or (first_block n) (200 + r) 0 ≡ 0
-  first_zeros r h = first_parts.at_e r ∙ get_or_replicate 310 r 0 0 h
+  first_zeros r h = first_parts.at_e r ∙ get_or-replicate 310 r 0 0 h
 
 -- ---- a code block
 module _ (n : Network) (shaped : Shaped n) (few : blocks_of n ≤ 8) (k : ℕ) (h : k < blocks_of n) where
@@ -128,7 +128,7 @@ module _ (n : Network) (shaped : Shaped n) (few : blocks_of n ≤ 8) (k : ℕ) (
 
   code_long : length (code_block n (k + 1)) ≡ 510
   unfolding code_block
-  code_long = length_append (take 508 (drop (508 * (k + 1 - 1)) n.code)) (two_bytes (k + 1)) ∙ ap (λ (m : ℕ). m + 2) code_part
+  code_long = length-append (take 508 (drop (508 * (k + 1 - 1)) n.code)) (two_bytes (k + 1)) ∙ ap (λ (m : ℕ). m + 2) code_part
 
   code_byte : (r : ℕ) → r < 508 → get_or (code_block n (k + 1)) r 0 ≡ get_or n.code (508 * k + r) 0
   unfolding code_block
@@ -153,10 +153,10 @@ code_body n k = rw (ne_eqb (k + 1) 0 (omega arith))
 module _ (n : Network) (shaped : Shaped n) (few : blocks_of n ≤ 8) where
   body_long : (k : ℕ) → k < blocks_of n + 1 → length (body_of n k) ≡ 510
   body_long zero h = (first_parts n).long
-  body_long (suc k) h = rw (← add_one k) (ap length (code_body n k) ∙ code_long n shaped few k (omega arith))
+  body_long (suc k) h = rw (← add-one k) (ap length (code_body n k) ∙ code_long n shaped few k (omega arith))
 
   block_long : (k : ℕ) → k < blocks_of n + 1 → length (block_of n k) ≡ 512
-  block_long k h = length_append (body_of n k) (two_bytes (crc (body_of n k))) ∙ ap (λ (m : ℕ). m + 2) (body_long k h)
+  block_long k h = length-append (body_of n k) (two_bytes (crc (body_of n k))) ∙ ap (λ (m : ℕ). m + 2) (body_long k h)
 
   file_long : length (file_of n) ≡ 512 * (blocks_of n + 1)
   unfolding file_of

@@ -5,7 +5,7 @@ use mathlib.Core.Bool.{Bool, true, false, cond, not}
 use mathlib.Core.List.{List, ◌++◌}
 use Prim.Native.Nat.{ℕ, ◌≤◌, ◌<◌}
 use native.Mathlib.Omega.{arith}
-use borrow.Author.Tests.{lt_ltb, le-ltb}
+use borrow.Author.Tests.{lt-ltb, le-ltb}
 use lib.Dec.{ltb}
 use lib.ListN.{length, take, drop}
 use lib.Seq.{take_at}
@@ -76,7 +76,7 @@ written_as n buffer e h = rw (e, le-ltb (length buffer) (size_of n) h)
 
 denied_as : (n : Network) (buffer : List ℕ) → passes n ≡ true → length buffer < size_of n → write_of n buffer ≡ outcome (denied 15) buffer
 unfolding write_of
-denied_as n buffer e h = rw (e, lt_ltb (length buffer) (size_of n) h)
+denied_as n buffer e h = rw (e, lt-ltb (length buffer) (size_of n) h)
 
 written_parts : (n : Network) (buffer : List ℕ) (k : ℕ) → (write_of n buffer).answer ≡ wrote k
     → (passes n ≡ true) × (size_of n ≡ k) × ((write_of n buffer).buffer ≡ file_of n ++ drop (size_of n) buffer)

@@ -5,7 +5,7 @@ use mathlib.Core.Bool.{Bool, true, false}
 use mathlib.Core.List.{List}
 use Prim.Native.Nat.{ℕ, ◌+◌, ◌-◌, ◌*◌, ◌/◌, ◌%◌, ◌≤◌, ◌<◌}
 use native.Mathlib.Omega.{arith}
-use borrow.Author.Tests.{eqb_true, eq-eqb}
+use borrow.Author.Tests.{eqb-true, eq-eqb}
 use lib.Dec.{T, eqb}
 use lib.ListN.{length, get_or}
 use Rattle.base.specs.declared.Verdict.{Verdict}
@@ -19,7 +19,7 @@ use Rattle.lane_file.specs.Read.{Told, accepted, refused, blocks, length_right, 
 
 -- ---- tests place by place
 pub each_zero : (s : List ℕ) (a e : ℕ) → zeros_in s a e ≡ Good → (j : ℕ) → a ≤ j → j < e → get_or s j 0 ≡ 0
-each_zero s a e g j h l = eqb_true (get_or s j 0) 0 (each_true (is_zero s) a (e - a) g j h (omega arith))
+each_zero s a e g j h l = eqb-true (get_or s j 0) 0 (each_true (is_zero s) a (e - a) g j h (omega arith))
 
 pub all_zero : (s : List ℕ) (a e : ℕ) → ((j : ℕ) → a ≤ j → j < e → get_or s j 0 ≡ 0) → zeros_in s a e ≡ Good
 all_zero s a e g = all_true (is_zero s) a (e - a) (λ j h l. eq-eqb (get_or s j 0) 0 (g j h (omega arith)))
@@ -86,12 +86,12 @@ headed s e =
     let d = both (need (processes_right (get_or s 3 0)) 3) _ c.1 in
     let f = both (need (channels_right (get_or s 4 0)) 4) (need (eqb (get_or s 5 0) (blocks s - 1)) 5) d.1 in
     record {
-      at_0 = eqb_true (get_or s 0 0) 0x4C (need_true _ 0 a.0);
-      at_1 = eqb_true (get_or s 1 0) 0x4E (need_true _ 1 b.0);
-      at_2 = eqb_true (get_or s 2 0) 1 (need_true _ 2 c.0);
+      at_0 = eqb-true (get_or s 0 0) 0x4C (need_true _ 0 a.0);
+      at_1 = eqb-true (get_or s 1 0) 0x4E (need_true _ 1 b.0);
+      at_2 = eqb-true (get_or s 2 0) 1 (need_true _ 2 c.0);
       processes = between_true 1 (get_or s 3 0) 16 (need_true (processes_right (get_or s 3 0)) 3 d.0);
       channels = between_true 1 (get_or s 4 0) 32 (need_true (channels_right (get_or s 4 0)) 4 f.0);
-      at_5 = eqb_true (get_or s 5 0) (blocks s - 1) (need_true _ 5 f.1);
+      at_5 = eqb-true (get_or s 5 0) (blocks s - 1) (need_true _ 5 f.1);
     }
 
 -- ---- what the tests of the bytes that must be zero say, and of the block numbers
@@ -107,8 +107,8 @@ numbered s instructions k e =
     let b = both (need (eqb (get_or s (512 * k + 508) 0) (k / 256)) (512 * k + 508)) (need (eqb (get_or s (512 * k + 509) 0) (k % 256)) (512 * k + 509)) a.1 in
     record {
       zeros = each_zero s (unused_from instructions k) (512 * k + 508) a.0;
-      high = eqb_true (get_or s (512 * k + 508) 0) (k / 256) (need_true _ _ b.0);
-      low = eqb_true (get_or s (512 * k + 509) 0) (k % 256) (need_true _ _ b.1);
+      high = eqb-true (get_or s (512 * k + 508) 0) (k / 256) (need_true _ _ b.0);
+      low = eqb-true (get_or s (512 * k + 509) 0) (k % 256) (need_true _ _ b.1);
     }
 
 pub record Rested (s : List ℕ) (n : Network) : Type 0 where

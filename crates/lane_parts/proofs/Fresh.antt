@@ -4,7 +4,7 @@ use mathlib.Core.Path.{◌≡◌, refl, ◌∙◌}
 use mathlib.Core.Bool.{false}
 use Prim.Native.Nat.{ℕ}
 use lib.IntN.{pos}
-use lib.ListN.{length, replicate, length_replicate}
+use lib.ListN.{length, replicate, length-replicate}
 use Rattle.base.specs.Lists.{table}
 use Rattle.base.proofs.Lists.{table_is, same_at}
 use Rattle.network.specs.declared.Network.{Network}
@@ -26,7 +26,7 @@ module _ (n : Network) where
     pub fresh_full : Full fresh_parts
     fresh_full =
         record {
-          file = length_replicate 128 (pos 0);
+          file = length-replicate 128 (pos 0);
           sixteen = record { position = refl; condition = refl; move = refl };
           thirty_two = record { room = long; place = refl; number = refl; mark = refl; shut = refl };
         }

@@ -3,7 +3,7 @@
 use mathlib.Core.Path.{◌≡◌}
 use Prim.Native.Nat.{ℕ, ◌+◌, ◌<◌}
 use native.Mathlib.Omega.{arith}
-use borrow.Author.Tests.{lt_ltb}
+use borrow.Author.Tests.{lt-ltb}
 use Rattle.network.specs.declared.Network.{Network}
 use Rattle.network.specs.declared.Instruction.{Instruction}
 use Rattle.network.specs.Code.{instruction_at}
@@ -38,4 +38,4 @@ pub instruction_is :
     → i ≡ instruction_at l.network.code at
     → i ≡ instruction_for p l
 unfolding stands_at
-instruction_is {n} l p same h e₁ e₂ = rw (e₂, e₁, ← same, lt_ltb (standing_of l p).position (count_of n p) h)
+instruction_is {n} l p same h e₁ e₂ = rw (e₂, e₁, ← same, lt-ltb (standing_of l p).position (count_of n p) h)

@@ -5,7 +5,7 @@ use mathlib.Core.Bool.{Bool}
 use mathlib.Core.List.{List}
 use Prim.Native.Nat.{ℕ, ◌+◌, ◌≤◌, ◌<◌}
 use native.Mathlib.Omega.{arith}
-use lib.ListN.{length, get_or, set, length_set}
+use lib.ListN.{length, get_or, set, length-set}
 use lib.Seq.{ext_get_or}
 use Rattle.base.proofs.Lists.{Filled, filled_more}
 use Rattle.process.specs.declared.Condition.{Condition}
@@ -51,7 +51,7 @@ parted_processes xs old {ps} {ks} {ms} s p h m e c =
 -- a store keeps the lengths
 pub keeps_process : {ps ks ms : List ℕ} (s : Sixteen ps ks ms) (p a k m : ℕ) → Sixteen (set ps p a) (set ks p k) (set ms p m)
 keeps_process {ps} {ks} {ms} s p a k m =
-    record { position = length_set ps p a ∙ s.position; condition = length_set ks p k ∙ s.condition; move = length_set ms p m ∙ s.move }
+    record { position = length-set ps p a ∙ s.position; condition = length-set ks p k ∙ s.condition; move = length-set ms p m ∙ s.move }
 
 -- one process more is joined
 pub join_process :
@@ -91,11 +91,11 @@ parted_channels xs old {ns} {os} {hs} {ms} {cs} s c h m e f =
 pub keeps_channel : {ns os hs ms : List ℕ} {cs : List Bool} (s : ThirtyTwo ns os hs ms cs) (c a o h m : ℕ) (d : Bool) → ThirtyTwo (set ns c a) (set os c o) (set hs c h) (set ms c m) (set cs c d)
 keeps_channel {ns} {os} {hs} {ms} {cs} s c a o h m d =
     record {
-      room = length_set ns c a ∙ s.room;
-      place = length_set os c o ∙ s.place;
-      number = length_set hs c h ∙ s.number;
-      mark = length_set ms c m ∙ s.mark;
-      shut = length_set cs c d ∙ s.shut;
+      room = length-set ns c a ∙ s.room;
+      place = length-set os c o ∙ s.place;
+      number = length-set hs c h ∙ s.number;
+      mark = length-set ms c m ∙ s.mark;
+      shut = length-set cs c d ∙ s.shut;
     }
 
 -- one channel more is joined

@@ -7,7 +7,7 @@ use borrow.Author.Tests.{ne_eqb}
 use mathlib.Core.List.{List, [], ◌∷◌}
 use Prim.Native.Nat.{ℕ, zero, suc}
 use native.Mathlib.Omega.{arith}
-use lib.ListN.{length, get_or, set, length_set}
+use lib.ListN.{length, get_or, set, length-set}
 use lib.Seq.{set-get_or}
 use Rattle.process.specs.declared.Channel.{Channel}
 use Rattle.process.specs.Channels.{no_channel, put_one, get_one, close_one, drop_one, enlarge_one}
@@ -163,19 +163,19 @@ module _ {ns os hs ms : List ℕ} {cs : List Bool} (t : ThirtyTwo ns os hs ms cs
 -- ---- a store keeps the lengths
 module _ {ns os hs ms : List ℕ} {cs : List Bool} (t : ThirtyTwo ns os hs ms cs) (c : ℕ) where
   pub keeps_capacity : (n : ℕ) → ThirtyTwo (set ns c n) os hs ms cs
-  keeps_capacity n = record { room = length_set ns c n ∙ t.room; place = t.place; number = t.number; mark = t.mark; shut = t.shut }
+  keeps_capacity n = record { room = length-set ns c n ∙ t.room; place = t.place; number = t.number; mark = t.mark; shut = t.shut }
 
   pub keeps_held : (h m : ℕ) → ThirtyTwo ns os (set hs c h) (set ms c m) cs
   keeps_held h m =
-      record { room = t.room; place = t.place; number = length_set hs c h ∙ t.number; mark = length_set ms c m ∙ t.mark; shut = t.shut }
+      record { room = t.room; place = t.place; number = length-set hs c h ∙ t.number; mark = length-set ms c m ∙ t.mark; shut = t.shut }
 
   pub keeps_got : (o h : ℕ) → ThirtyTwo ns (set os c o) (set hs c h) ms cs
   keeps_got o h =
-      record { room = t.room; place = length_set os c o ∙ t.place; number = length_set hs c h ∙ t.number; mark = t.mark; shut = t.shut }
+      record { room = t.room; place = length-set os c o ∙ t.place; number = length-set hs c h ∙ t.number; mark = t.mark; shut = t.shut }
 
   pub keeps_closed : (s : Bool) → ThirtyTwo ns os hs ms (set cs c s)
-  keeps_closed s = record { room = t.room; place = t.place; number = t.number; mark = t.mark; shut = length_set cs c s ∙ t.shut }
+  keeps_closed s = record { room = t.room; place = t.place; number = t.number; mark = t.mark; shut = length-set cs c s ∙ t.shut }
 
   pub keeps_dropped : (h : ℕ) (s : Bool) → ThirtyTwo ns os (set hs c h) ms (set cs c s)
   keeps_dropped h s =
-      record { room = t.room; place = t.place; number = length_set hs c h ∙ t.number; mark = t.mark; shut = length_set cs c s ∙ t.shut }
+      record { room = t.room; place = t.place; number = length-set hs c h ∙ t.number; mark = t.mark; shut = length-set cs c s ∙ t.shut }

@@ -4,7 +4,7 @@ use mathlib.Core.Path.{◌≡◌}
 use mathlib.Core.Bool.{true}
 use mathlib.Core.List.{List}
 use Prim.Native.Nat.{ℕ, ◌≤◌}
-use borrow.Author.Tests.{eqb_true}
+use borrow.Author.Tests.{eqb-true}
 use native.Mathlib.Omega.{arith}
 use lib.Dec.{eqb}
 use lib.ListN.{length, get_or}
@@ -29,7 +29,7 @@ pub record Slotted (n : Network) : Type 0 where
 pub slotted : (s : List ℕ) (n : Network) → get_or s 5 0 ≤ 8 → slots_in s n ≡ Good → Slotted n
 slotted s n h e =
     let b = both (slots n) (need (eqb (get_or s 5 0) (blocks_for (total n))) 16) e in
-    let k = eqb_true (get_or s 5 0) (blocks_for (total n)) (need_true _ 16 b.1) in
+    let k = eqb-true (get_or s 5 0) (blocks_for (total n)) (need_true _ 16 b.1) in
     record { good = b.0; few = omega arith }
 
 -- ---- the tests 1 to 3

@@ -5,11 +5,11 @@ use mathlib.Core.Path.{◌≡◌, refl, sym, ap, ◌∙◌}
 use mathlib.Core.Bool.{Bool, true, false, not, ◌&&◌, ◌||◌, and-false}
 use mathlib.Core.Logic.{◌⊎◌, inl, inr, ⊎_elim}
 use Prim.Native.Nat.{ℕ, ◌+◌, ◌*◌, ◌≤◌, ◌<◌}
-use borrow.Author.Tests.{eqb_true}
+use borrow.Author.Tests.{eqb-true}
 use native.Mathlib.Omega.{arith}
 use lib.Dec.{eqb, ltb, leb}
 use lib.IntN.{pos}
-use lib.ListN.{length, get_or, get_or_eq_default}
+use lib.ListN.{length, get_or, get_or-eq_default}
 use Rattle.base.specs.Tests.{need, first_bad, is_good, between}
 use Rattle.base.proofs.Tests.{each_true, over}
 use Rattle.base.proofs.Conjunction.{iff, both_true, true_both}
@@ -76,7 +76,7 @@ module _ (l : Lane) (long : length l.processes ≡ 16) (pass : passes l.network 
       ⊎_elim
       (λ t. rw t)
       (λ t.
-      let o : ended_at l e ≡ false = ap (λ s. is_ended s.condition) (get_or_eq_default l.processes no_standing {n = e} (omega (arith, eqb_true e 255 t))) in
+      let o : ended_at l e ≡ false = ap (λ s. is_ended s.condition) (get_or-eq_default l.processes no_standing {n = e} (omega (arith, eqb-true e 255 t))) in
       rw o (and-false (ltb e l.network.processes)))
       (either (ltb e l.network.processes) (eqb e outside) r)
 

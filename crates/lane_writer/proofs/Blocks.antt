@@ -4,10 +4,10 @@ use mathlib.Core.Path.{◌≡◌, refl, ◌∙◌}
 use mathlib.Core.List.{List, ◌++◌}
 use Prim.Native.Nat.{ℕ, ◌+◌, ◌-◌, ◌*◌, ◌≤◌}
 use native.Mathlib.Decide.{ℕ_discrete}
-use native.Mathlib.Numerals.{add_one}
+use native.Mathlib.Numerals.{add-one}
 use native.Mathlib.Omega.{arith}
 use borrow.Author.Tests.{ne_eqb}
-use lib.ListN.{length, take, drop, replicate, length_append, length_replicate}
+use lib.ListN.{length, take, drop, replicate, length-append, length-replicate}
 use Rattle.base.specs.Lists.{joined, two_bytes}
 use Rattle.block_check.specs.Crc.{crc}
 use Rattle.network.specs.declared.Network.{Network}
@@ -22,13 +22,13 @@ pub length_fours : (f : ℕ → List ℕ) → ((p : ℕ) → length (f p) ≡ 4)
 length_fours f g n = length_joined f 4 n 0 (λ p a b. g p)
 
 length_four : (a b d z : List ℕ) → length a ≡ 8 → length b ≡ 64 → length d ≡ 128 → length z ≡ 310 → length (a ++ (b ++ (d ++ z))) ≡ 510
-length_four a b d z la lb ld lz = simp length_append (omega arith)
+length_four a b d z la lb ld lz = simp length-append (omega arith)
 
 pub length_first : (n : Network) → length (first_block n) ≡ 510
 unfolding first_block
 length_first n =
     length_four (header_of n) (joined (slot_of n) 0 16) (joined (record_of n) 0 32) (replicate 310 0) refl
-    (length_fours (slot_of n) (λ p. refl) 16) (length_fours (record_of n) (λ c. refl) 32) (length_replicate {A = ℕ} 310 0)
+    (length_fours (slot_of n) (λ p. refl) 16) (length_fours (record_of n) (λ c. refl) 32) (length-replicate {A = ℕ} 310 0)
 
 pub length_code : (bytes : List ℕ) (k : ℕ) → length bytes ≡ 4064 → 1 ≤ k → k ≤ 8 → length (take 508 (drop (508 * (k - 1)) bytes)) ≡ 508
 length_code bytes k e l h = length_part bytes (508 * (k - 1)) 508 (omega arith)
@@ -42,10 +42,10 @@ pub length_block : (n : Network) → length n.code ≡ 4064 → (k : ℕ) → k 
 length_block n e k h = go (ℕ_discrete k 0)
   where
     go : Dec (k ≡ 0) → length (block_of n k) ≡ 512
-    go (yes q) = rw q (length_append (first_block n) (two_bytes (crc (first_block n))) ∙ rw (length_first n))
+    go (yes q) = rw q (length-append (first_block n) (two_bytes (crc (first_block n))) ∙ rw (length_first n))
     go (no q) =
         let l : 1 ≤ k = omega arith in
-        rw (code_is n k l, length_append, length_append, length_code n.code k e l h)
+        rw (code_is n k l, length-append, length-append, length_code n.code k e l h)
 
 pub length_file : (n : Network) → length n.code ≡ 4064 → blocks_for (total n) ≤ 8 → length (file_of n) ≡ size_of n
 unfolding file_of
@@ -54,7 +54,7 @@ length_file n e h = length_joined (block_of n) 512 (blocks_for (total n) + 1) 0 
 -- block 0 and the code blocks
 pub file_is : (n : Network) → file_of n ≡ checked (first_block n) ++ joined (block_of n) 1 (blocks_for (total n))
 unfolding file_of joined
-file_is n = rw add_one
+file_is n = rw add-one
 
 -- ---- a block and its check
 pub put_checked : (block old t s : List ℕ) (at : ℕ) → length block ≡ 510 → at + 510 ≤ length old → t ≡ put old at block

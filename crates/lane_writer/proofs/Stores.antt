@@ -3,9 +3,9 @@
 use mathlib.Core.Path.{◌≡◌, refl, ap, ◌∙◌}
 use mathlib.Core.List.{List, [], ◌∷◌, ◌++◌, append_assoc}
 use Prim.Native.Nat.{ℕ, suc, ◌+◌, ◌*◌, ◌≤◌, ◌<◌}
-use native.Mathlib.Numerals.{add_one}
+use native.Mathlib.Numerals.{add-one}
 use native.Mathlib.Omega.{arith}
-use lib.ListN.{length, get_or, take, drop, set, replicate, length_drop, length_replicate, replicate-append-replicate}
+use lib.ListN.{length, get_or, take, drop, set, replicate, length-drop, length-replicate, replicate-append-replicate}
 use lib.Seq.{sets-eq, take_at, drop_at, length-take-le, take-suc, get_or-drop}
 use Rattle.base.specs.Lists.{joined}
 use Rattle.base.proofs.Lists.{joined_more}
@@ -45,15 +45,15 @@ put_front v l n e h =
 -- ---- one more of what is written in turn: a zero, an element of a list, a list of those that have one length
 pub zeros_more : (old l : List ℕ) (at i : ℕ) → l ≡ put old at (replicate i 0) → set l (at + i) 0 ≡ put old at (replicate (i + 1) 0)
 zeros_more old l at i e =
-    put_last (replicate i 0) old l at (at + i) 0 e (rw length_replicate) ∙ ap (put old at) (replicate-append-replicate i 1 0)
+    put_last (replicate i 0) old l at (at + i) 0 e (rw length-replicate) ∙ ap (put old at) (replicate-append-replicate i 1 0)
 
 pub copied_more : (bytes old l : List ℕ) (at from i : ℕ) → from + i < length bytes → l ≡ put old at (take i (drop from bytes))
     → set l (at + i) (get_or bytes (from + i) 0) ≡ put old at (take (i + 1) (drop from bytes))
 copied_more bytes old l at from i h e =
-    let m : i < length (drop from bytes) = simp length_drop (omega arith) in
+    let m : i < length (drop from bytes) = simp length-drop (omega arith) in
     put_last (take i (drop from bytes)) old l at (at + i) (get_or bytes (from + i) 0) e
     (omega (arith, length_part bytes from i (omega arith)))
-    ∙ rw (add_one, take-suc (drop from bytes) i 0 m, get_or-drop)
+    ∙ rw (add-one, take-suc (drop from bytes) i 0 m, get_or-drop)
 
 pub joined_next : (f : ℕ → List ℕ) (width first : ℕ) (old l : List ℕ) (at next n : ℕ)
     → ((p : ℕ) → first ≤ p → p < first + n → length (f p) ≡ width)
@@ -62,4 +62,4 @@ pub joined_next : (f : ℕ → List ℕ) (width first : ℕ) (old l : List ℕ) 
     → put l next (f (first + n)) ≡ put old at (joined f first (n + 1))
 joined_next f width first old l at next n h e q =
     let m : next ≡ at + length (joined f first n) = omega (arith, length_joined f width n first h) in
-    rw (e, put_put (joined f first n) (f (first + n)) old at next m, add_one, joined_more f n first)
+    rw (e, put_put (joined f first n) (f (first + n)) old at next m, add-one, joined_more f n first)

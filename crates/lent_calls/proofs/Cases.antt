@@ -7,7 +7,7 @@ use Prim.Native.Nat.{ℕ, ◌≤◌, ◌<◌}
 use native.Mathlib.Omega.{arith}
 use borrow.Author.Tests.{eq-eqb, ne_eqb}
 use lib.IntN.{ℤ, pos}
-use lib.ListN.{get_or, set, length_set}
+use lib.ListN.{get_or, set, length-set}
 use lib.Seq.{get_or-set_same}
 use Rattle.base.specs.declared.Refusal.TheVariants.{Full, Closed, Empty}
 use Rattle.process.specs.declared.Channel.{Channel}
@@ -50,7 +50,7 @@ module _ {capacity oldest held peak : List ℕ} {closed : List Bool} (t : Thirty
         record {
           thirty_two = keeps_held t c k.held k.peak;
           within = more_within f.low f.within room put;
-          long = length_set cells to v ∙ f.long;
+          long = length-set cells to v ∙ f.long;
           told = λ l e g. rw (put_sent t c at put, put, place, ← e, here l e, unshut, sym g ∙ live, ne_eqb h.held h.capacity room);
         }
 

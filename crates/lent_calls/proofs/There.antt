@@ -5,7 +5,7 @@ use mathlib.Core.Bool.{Bool, true}
 use mathlib.Core.List.{List}
 use Prim.Native.Nat.{ℕ, ◌<◌}
 use native.Mathlib.Omega.{arith}
-use borrow.Author.Tests.{eq-eqb, lt_ltb}
+use borrow.Author.Tests.{eq-eqb, lt-ltb}
 use lib.IntN.{ℤ}
 use lib.ListN.{length, get_or}
 use Rattle.network.specs.Rules.{sender_of, receiver_of, outside}
@@ -50,12 +50,12 @@ module _ {c : ℕ} (l : Lane) (sound : sound_of l ≡ true) (there : c < l.netwo
 module _ (c : ℕ) (w : World) (sound : sound_of w.lane ≡ true) (there : c < w.lane.network.channels) where
   pub feed_there : (v : ℤ) → length w.cells ≡ 8192 → sender_of w.lane.network c ≡ outside → feed_of c v w ≡ refuse (is_closed c w) 11 w (fed c v w)
   unfolding feed_of
-  feed_there v long outer = rw (eq-eqb _ _ long, sound, lt_ltb _ _ there, eq-eqb _ _ outer)
+  feed_there v long outer = rw (eq-eqb _ _ long, sound, lt-ltb _ _ there, eq-eqb _ _ outer)
 
   pub close_there : sender_of w.lane.network c ≡ outside → close_of c w ≡ refuse (is_closed c w) 11 w (closed c w)
   unfolding close_of
-  close_there outer = rw (sound, lt_ltb _ _ there, eq-eqb _ _ outer)
+  close_there outer = rw (sound, lt-ltb _ _ there, eq-eqb _ _ outer)
 
   pub take_there : length w.cells ≡ 8192 → receiver_of w.lane.network c ≡ outside → take_of c w ≡ taken c w
   unfolding take_of
-  take_there long outer = rw (eq-eqb _ _ long, sound, lt_ltb _ _ there, eq-eqb _ _ outer)
+  take_there long outer = rw (eq-eqb _ _ long, sound, lt-ltb _ _ there, eq-eqb _ _ outer)

@@ -3,7 +3,7 @@
 use mathlib.Core.Path.{◌≡◌, refl, ap, ◌∙◌}
 use mathlib.Core.List.{List, [], ◌∷◌, ◌++◌}
 use Prim.Native.Nat.{ℕ, suc, ◌+◌, ◌≤◌, ◌<◌}
-use native.Mathlib.Numerals.{add_one}
+use native.Mathlib.Numerals.{add-one}
 use native.Mathlib.Omega.{arith}
 use borrow.Author.Tests.{le-ltb}
 use lib.ListN.{length, get_or, set, take, drop, take-append-drop}
@@ -38,7 +38,7 @@ module _ (n : Network) (p : ℕ) where
       (c : ℕ) (hs : List Channel) (h : Channel) → c < length hs → h ≡ drop_one (sends n p c) (receives n p c) (get_or hs c no_channel)
       → take (c + 1) (set hs c h) ++ drop_from n p (c + 1) (drop (c + 1) (set hs c h)) ≡ take c hs ++ drop_from n p c (drop c hs)
   drop_more c hs h m e =
-      rw (add_one, take-suc-set hs c h m, drop-set-lt (suc c) hs c h (omega arith), drop-cons hs c no_channel m, append_snoc, e)
+      rw (add-one, take-suc-set hs c h m, drop-set-lt (suc c) hs c h (omega arith), drop-cons hs c no_channel m, append_snoc, e)
 
   -- no channel left
   pub drop_done : (c : ℕ) (hs : List Channel) → n.channels ≤ c → take c hs ++ drop_from n p c (drop c hs) ≡ hs

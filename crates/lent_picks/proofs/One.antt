@@ -7,7 +7,7 @@ use Prim.Native.Nat.{ℕ, zero, suc, ◌+◌, ◌*◌, ◌≤◌, ◌<◌}
 use native.Mathlib.Decide.{dec_lt}
 use native.Mathlib.Omega.{arith}
 use lib.IntN.{ℤ}
-use lib.ListN.{length, get_or, set, length_set}
+use lib.ListN.{length, get_or, set, length-set}
 use Rattle.network.specs.declared.Network.{Network}
 use Rattle.network.specs.declared.Instruction.{Instruction}
 use Rattle.network.specs.Code.{instruction_at}
@@ -171,10 +171,10 @@ dropped_is {n} lent p hs e = drop_is n n p hs refl (rw (lent.sender, lent.receiv
 
 -- the lengths afterwards
 pub kept_positions : {ps ks ms ps' ms' : List ℕ} (s : Sixteen ps ks ms) (p x y : ℕ) → ps' ≡ set ps p x → ms' ≡ set ms p y → Sixteen ps' ks ms'
-kept_positions {ps} {ks} {ms} s p x y e g = record { position = ap length e ∙ length_set ps p x ∙ s.position; condition = s.condition; move = ap length g ∙ length_set ms p y ∙ s.move }
+kept_positions {ps} {ks} {ms} s p x y e g = record { position = ap length e ∙ length-set ps p x ∙ s.position; condition = s.condition; move = ap length g ∙ length-set ms p y ∙ s.move }
 
 pub kept_conditions : {ps ks ms ks' ms' : List ℕ} (s : Sixteen ps ks ms) (p x y : ℕ) → ks' ≡ set ks p x → ms' ≡ set ms p y → Sixteen ps ks' ms'
-kept_conditions {ps} {ks} {ms} s p x y e g = record { position = s.position; condition = ap length e ∙ length_set ks p x ∙ s.condition; move = ap length g ∙ length_set ms p y ∙ s.move }
+kept_conditions {ps} {ks} {ms} s p x y e g = record { position = s.position; condition = ap length e ∙ length-set ks p x ∙ s.condition; move = ap length g ∙ length-set ms p y ∙ s.move }
 
 pub kept_file :
     (n : Network) (accepted : ℕ) {f : Fixed} (t : Parts) (lent : Lent n f) (full : Full t) (sound : sound_of (lane_of n accepted t) ≡ true) (p : ℕ) (there : p < n.processes) (cells : List ℤ) (t' : Parts) {cells' : List ℤ}

@@ -5,7 +5,7 @@ use mathlib.Core.Bool.{Bool, true, false, cond, not, ◌&&◌, true≢false}
 use mathlib.Core.List.{List}
 use Prim.Native.Nat.{ℕ, zero, suc, ◌+◌, ◌-◌, ◌≤◌, ◌<◌}
 use native.Mathlib.Omega.{arith}
-use borrow.Author.Tests.{eqb_true, eq-eqb, not-true}
+use borrow.Author.Tests.{eqb-true, eq-eqb, not-true}
 use lib.Dec.{eqb}
 use lib.IntN.{ℤ}
 use lib.ListN.{length, replicate}
@@ -173,7 +173,7 @@ module _ {again : ℕ} {picks : List ℕ} {used : ℕ} {f : Fixed} {t₀ : Parts
       -- the round was idle
       pub rounds_idle : (eqb moved 0 && eqb eased 0) ≡ true → Turns again picks used f t₀ cells₀ moved left enlarged t'' cells'
       rounds_idle z =
-          let none : eased ≡ 0 = eqb_true eased 0 (both_true (eqb moved 0) (eqb eased 0) z).1 in
+          let none : eased ≡ 0 = eqb-true eased 0 (both_true (eqb moved 0) (eqb eased 0) z).1 in
           record {
             full = full_then;
             long = d.long;

@@ -6,14 +6,14 @@ use Prim.Native.Nat.{ℕ, zero, suc, ◌+◌, ◌-◌, ◌*◌, ◌/◌, ◌%◌
 use native.Mathlib.Decide.{dec_lt}
 use native.Mathlib.Nat.{pow-suc, one-le-pow}
 use native.Mathlib.Omega.{arith}
-use borrow.Author.Tests.{lt_ltb, le-ltb}
+use borrow.Author.Tests.{lt-ltb, le-ltb}
 use Rattle.io.specs.Digits.{last_digits, hex_digit_ascii, IsDigitCount}
 use Rattle.listing.specs.Number.{number}
 use Rattle.listing.specs.Text.{decimal}
 
 -- one digit, and more
 decimal_one : (k n : ℕ) → n < 10 → decimal (suc k) n ≡ (48 + n) ∷ []
-decimal_one k n h = rw (lt_ltb n 10 h)
+decimal_one k n h = rw (lt-ltb n 10 h)
 
 decimal_more : (k n : ℕ) → 10 ≤ n → decimal (suc k) n ≡ decimal k (n / 10) ++ ((48 + n % 10) ∷ [])
 decimal_more k n h = rw (le-ltb n 10 h)
@@ -36,7 +36,7 @@ decimal_same (suc k) (suc m) n h l = go (dec_lt n 10) (decimal_same k m (n / 10)
 
 -- the glyph of a decimal digit
 glyph_digit : (d : ℕ) → d < 10 → hex_digit_ascii d ≡ 48 + d
-glyph_digit d h = rw (lt_ltb d 10 h)
+glyph_digit d h = rw (lt-ltb d 10 h)
 
 -- of a number with two digits or more: its least, and the digits of what is left without the last
 least : (r n : ℕ) → IsDigitCount 10 1 n (suc (suc r)) → 10 ^ r * 10 ≤ n

@@ -6,7 +6,7 @@ use Prim.Native.Nat.{ℕ, zero, suc, ◌+◌, ◌/◌, ◌%◌, ◌≤◌}
 use native.Mathlib.Omega.{arith}
 use lib.Dec.{ltb}
 use lib.IntN.{ℤ, pos, negsuc}
-use lib.ListN.{length, length_append}
+use lib.ListN.{length, length-append}
 use Rattle.listing.specs.declared.Status.{Status}
 use Rattle.listing.specs.declared.Status.TheVariants.{Stop, Fault, Empty, Full, Run}
 use Rattle.listing.specs.Text.{decimal, integer, word, line_text, out, end, grow, proc}
@@ -17,7 +17,7 @@ decimal_short (suc k) n = by (ltb n 10) (decimal_short k (n / 10))
   where
     by : (t : Bool) → length (decimal k (n / 10)) ≤ k → length (cond t ((48 + n) ∷ []) (decimal k (n / 10) ++ ((48 + n % 10) ∷ []))) ≤ suc k
     by true h = omega arith
-    by false h = simp length_append (omega arith)
+    by false h = simp length-append (omega arith)
 
 pub integer_short : (v : ℤ) → length (integer v) ≤ 11
 integer_short (pos n) = omega (arith, decimal_short 10 n)
@@ -32,16 +32,16 @@ word_short Run = omega arith
 
 pub out_short : (c : ℕ) (v : ℤ) → length (line_text (out c v)) ≤ 19
 unfolding line_text
-out_short c v = simp length_append (omega (arith, decimal_short 2 c, integer_short v))
+out_short c v = simp length-append (omega (arith, decimal_short 2 c, integer_short v))
 
 pub end_short : (c : ℕ) → length (line_text (end c)) ≤ 7
 unfolding line_text
-end_short c = simp length_append (omega (arith, decimal_short 2 c))
+end_short c = simp length-append (omega (arith, decimal_short 2 c))
 
 pub grow_short : (c k : ℕ) → length (line_text (grow c k)) ≤ 12
 unfolding line_text
-grow_short c k = simp length_append (omega (arith, decimal_short 2 c, decimal_short 3 k))
+grow_short c k = simp length-append (omega (arith, decimal_short 2 c, decimal_short 3 k))
 
 pub proc_short : (p : ℕ) (s : Status) (m : ℕ) → length (line_text (proc p s m)) ≤ 35
 unfolding line_text
-proc_short p s m = simp length_append (omega (arith, decimal_short 2 p, word_short s, decimal_short 20 m))
+proc_short p s m = simp length-append (omega (arith, decimal_short 2 p, word_short s, decimal_short 20 m))

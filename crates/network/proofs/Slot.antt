@@ -3,7 +3,7 @@
 use mathlib.Core.Path.{◌≡◌, ap}
 use mathlib.Core.Bool.{true}
 use Prim.Native.Nat.{ℕ, zero, suc, ◌+◌, ◌-◌, ◌≤◌, ◌<◌}
-use borrow.Author.Tests.{eqb_true, ne_eqb}
+use borrow.Author.Tests.{eqb-true, ne_eqb}
 use native.Mathlib.Omega.{arith}
 use Rattle.base.specs.declared.Verdict.TheVariants.{Good}
 use Rattle.base.specs.Tests.{need}
@@ -28,7 +28,7 @@ pub right : (n : Network) (p : ℕ) → slot_right n p ≡ true → Right n p
 right n p e =
     let b = both_true _ _ e in
     let d = between_true 1 (count_of n p) 256 b.1 in
-    record { starts = eqb_true _ _ b.0; low = d.0; high = d.1 }
+    record { starts = eqb-true _ _ b.0; low = d.0; high = d.1 }
 
 module _ (n : Network) (g : slots n ≡ Good) where
   pub right_at : (p : ℕ) → p < n.processes → Right n p

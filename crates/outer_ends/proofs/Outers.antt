@@ -5,8 +5,8 @@ use mathlib.Core.List.{List}
 use Prim.Native.Nat.{ℕ, ◌+◌, ◌-◌, ◌≤◌, ◌<◌}
 use native.Mathlib.Decide.{ℕ_discrete}
 use native.Mathlib.Omega.{arith}
-use lib.ListN.{length, get_or, set, length_set}
-use lib.Seq.{get_or-set_same, get_or_set_other}
+use lib.ListN.{length, get_or, set, length-set}
+use lib.Seq.{get_or-set_same, get_or-set_other}
 use Rattle.network.specs.Rules.{outside}
 use Rattle.outer_ends.specs.Outer.{Onward, Outer}
 
@@ -38,10 +38,10 @@ module _ {ends old : List ℕ} {channels c next : ℕ} {after : List ℕ} (s : D
       go (yes e) =
           let k : d + 1 ≡ c = omega arith in
           rw (k, e, get_or-set_same after (c - 1) next 0 (omega (arith, s.long, s.few, s.low))) s.here
-      go (no n) = rw (get_or_set_other after (c - 1) d next 0 n) (s.above d (omega arith) l)
+      go (no n) = rw (get_or-set_other after (c - 1) d next 0 n) (s.above d (omega arith) l)
 
   stays : (d : ℕ) → channels ≤ d → get_or (set after (c - 1) next) d 0 ≡ get_or old d 0
-  stays d h = get_or_set_other after (c - 1) d next 0 (λ e. omega (arith, s.low)) ∙ s.kept d h
+  stays d h = get_or-set_other after (c - 1) d next 0 (λ e. omega (arith, s.low)) ∙ s.kept d h
 
   -- channel c - 1 has its end at the outside
   pub down_outer : get_or ends (c - 1) 0 ≡ outside → Down ends old channels (c - 1) (c - 1) (set after (c - 1) next)
@@ -49,7 +49,7 @@ module _ {ends old : List ℕ} {channels c next : ℕ} {after : List ℕ} (s : D
       record {
         low = omega (arith, s.low);
         few = s.few;
-        long = length_set after (c - 1) next ∙ s.long;
+        long = length-set after (c - 1) next ∙ s.long;
         here = record { from = omega arith; within = omega (arith, s.low); inside = λ d h l. absurd (omega arith); outer = λ h. e };
         above = listed;
         kept = stays;
@@ -61,7 +61,7 @@ module _ {ends old : List ℕ} {channels c next : ℕ} {after : List ℕ} (s : D
       record {
         low = omega (arith, s.low);
         few = s.few;
-        long = length_set after (c - 1) next ∙ s.long;
+        long = length-set after (c - 1) next ∙ s.long;
         here = record { from = omega (arith, s.here.from); within = s.here.within; inside = λ d h l. go d l (ℕ_discrete d (c - 1)) h; outer = s.here.outer };
         above = listed;
         kept = stays;

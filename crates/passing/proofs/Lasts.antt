@@ -7,7 +7,7 @@ use native.Mathlib.Decide.{ℕ_discrete, dec_lt}
 use native.Mathlib.Omega.{arith}
 use borrow.Author.Tests.{ne_eqb}
 use lib.Bits.{bit_and, and_block, and_mask}
-use lib.ListN.{get_or, get_or_eq_default}
+use lib.ListN.{get_or, get_or-eq_default}
 use Rattle.base.specs.Lists.{table}
 use Rattle.base.proofs.Lists.{table_at, length_values}
 use Rattle.network.specs.Code.{may_be_last}
@@ -35,4 +35,4 @@ table_small f s k = go (dec_lt k 256)
   where
     go : Dec (k < 256) → get_or (table 256 f) k 0 < 0x7000000000000000
     go (yes h) = rw (table_at f 256 k 0 h) (s k h)
-    go (no h) = rw (get_or_eq_default (table 256 f) 0 {n = k} (omega (arith, length_values f 256 0))) (omega arith)
+    go (no h) = rw (get_or-eq_default (table 256 f) 0 {n = k} (omega (arith, length_values f 256 0))) (omega arith)

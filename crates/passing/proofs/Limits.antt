@@ -6,7 +6,7 @@ use mathlib.Core.Bool.{Bool, false, ◌&&◌, and-true, and-false}
 use Prim.Native.Nat.{ℕ, zero, suc, ◌+◌, ◌-◌, ◌*◌, ◌≤◌, ◌<◌}
 use native.Mathlib.Decide.{dec_lt}
 use native.Mathlib.Omega.{arith}
-use borrow.Author.Tests.{ltb-true, lt_ltb, le-ltb, eqb_true, eq-eqb, ne_eqb}
+use borrow.Author.Tests.{ltb-true, lt-ltb, le-ltb, eqb-true, eq-eqb, ne_eqb}
 use lib.Dec.{eqb, ltb}
 use Rattle.base.proofs.Conjunction.{iff, both_true, true_both}
 use Rattle.flags.specs.Clean.{clean}
@@ -21,12 +21,12 @@ pub record Limit (flag x missing : ℕ) (test : Bool) : Type 0 where
 
 pub unnamed_limit : (flag x : ℕ) → 1 ≤ flag → Limit flag x (flag - 1) (eqb x 0)
 unnamed_limit flag x h =
-    record { small = omega arith; within = iff _ _ (omega (arith, ltb-true, eq-eqb)) (omega (arith, eqb_true, lt_ltb)) }
+    record { small = omega arith; within = iff _ _ (omega (arith, ltb-true, eq-eqb)) (omega (arith, eqb-true, lt-ltb)) }
 
 -- registers and targets
 pub below_limit : (flag x limit : ℕ) → 1 ≤ limit → limit ≤ flag → Limit flag x (flag - limit) (ltb x limit)
 below_limit flag x limit l h =
-    record { small = omega arith; within = iff _ _ (omega (arith, ltb-true, lt_ltb)) (omega (arith, ltb-true, lt_ltb)) }
+    record { small = omega arith; within = iff _ _ (omega (arith, ltb-true, lt-ltb)) (omega (arith, ltb-true, lt-ltb)) }
 
 -- ---- the field a
 -- with so much added, its digit is clean where the test says so
@@ -37,7 +37,7 @@ pub record Added (x added : ℕ) (test : Bool) : Type 0 where
 -- a register, with or without clear digits above it
 pub register_added : (x above : ℕ) → x < 256 → above < 128 → Added x (256 * above) (ltb x 8)
 register_added x above h l =
-    record { small = omega arith; within = clean_field above x (omega arith) h ∙ rw (lt_ltb above 128 l) (and-true (ltb x 8)) }
+    record { small = omega arith; within = clean_field above x (omega arith) h ∙ rw (lt-ltb above 128 l) (and-true (ltb x 8)) }
 
 pub unnamed_added : (x : ℕ) → x < 256 → Added x no_field (eqb x 0)
 unnamed_added zero h = record { small = omega arith; within = refl }
@@ -57,4 +57,4 @@ pub same_end : (e p : ℕ) → e ≤ 31 → p ≤ 31 → (ltb (e + (31 - p)) 32 
 same_end e p h l =
     iff _ _
     (λ t. let b = both_true (ltb (e + (31 - p)) 32) (ltb (31 - e + p) 32) t in eq-eqb e p (omega (arith, ltb-true)))
-    (λ t. let q : e ≡ p = eqb_true e p t in true_both _ _ (lt_ltb (e + (31 - p)) 32 (omega arith)) (lt_ltb (31 - e + p) 32 (omega arith)))
+    (λ t. let q : e ≡ p = eqb-true e p t in true_both _ _ (lt-ltb (e + (31 - p)) 32 (omega arith)) (lt-ltb (31 - e + p) 32 (omega arith)))

@@ -8,9 +8,9 @@ use mathlib.Core.List.{List}
 use Prim.Native.Nat.{ℕ, ◌+◌, ◌-◌, ◌*◌, ◌≤◌, ◌<◌}
 use native.Mathlib.Decide.{dec_lt}
 use native.Mathlib.Omega.{arith}
-use borrow.Author.Tests.{lt_ltb, le-ltb, ne_eqb}
+use borrow.Author.Tests.{lt-ltb, le-ltb, ne_eqb}
 use lib.Dec.{eqb, ltb}
-use lib.ListN.{get_or, get_or_eq_default}
+use lib.ListN.{get_or, get_or-eq_default}
 use Rattle.network.specs.declared.Instruction.{Instruction}
 use Rattle.network.specs.Code.{register, unnamed, target, three_registers, fields_right}
 use Rattle.flags.specs.Clean.{clean}
@@ -37,7 +37,7 @@ second_fails true c = refl
 
 fields_none : (count : ℕ) (receives sends : Bool) (i : Instruction) → 14 ≤ i.op → fields_right count receives sends i ≡ false
 unfolding fields_right
-fields_none count receives sends i h = rw get_or_eq_default
+fields_none count receives sends i h = rw get_or-eq_default
 
 -- ---- a sum whose opcode has the word w; r and s are the ends of the channel that the field b names
 abbrev sum : ℕ → ℕ → ℕ → Instruction → ℕ
@@ -48,7 +48,7 @@ module _ (a b c r s : ℕ) (ha : a < 256) (hb : b < 256) (hc : c < 256) (hr : r 
   at o = record { op = o; a = a; b = b; c = c }
 
   short_word : b < 32 → word r s b ≡ short + receiving r + sending s + 0xFFFFFF0000 * b
-  short_word h = rw (lt_ltb b 32 h)
+  short_word h = rw (lt-ltb b 32 h)
 
   long_word_lem : 32 ≤ b → word r s b ≡ long_word b
   long_word_lem h = rw (le-ltb b 32 h)
@@ -107,10 +107,10 @@ module _ (a b c r s : ℕ) (ha : a < 256) (hb : b < 256) (hc : c < 256) (hr : r 
       asks o w B 0 0 0 0 la lc lb.small (omega arith) (omega arith) (omega arith) (omega arith) (omega arith)
       (λ h. sym lb.within ∙ le-ltb (b + B) 64 (omega arith))
       (λ h. rw (
-        lt_ltb (r + 0) 32 (omega arith),
-        lt_ltb (s + 0) 32 (omega arith),
-        lt_ltb (31 - r + 0) 32 (omega arith),
-        lt_ltb (31 - s + 0) 32 (omega arith),
+        lt-ltb (r + 0) 32 (omega arith),
+        lt-ltb (s + 0) 32 (omega arith),
+        lt-ltb (31 - r + 0) 32 (omega arith),
+        lt-ltb (31 - s + 0) 32 (omega arith),
         lb.within,
       ) (and-true fb))
 
@@ -122,9 +122,9 @@ module _ (a b c r s : ℕ) (ha : a < 256) (hb : b < 256) (hc : c < 256) (hr : r 
       asks o w 0 (31 - p) p 0 0 la lc (omega arith) (omega arith) (omega arith) (omega arith) (omega arith) (omega arith)
       (λ h. let n = outside h in ne_eqb r p (omega arith))
       (λ h. rw (
-        lt_ltb (s + 0) 32 (omega arith),
-        lt_ltb (b + 0) 64 (omega arith),
-        lt_ltb (31 - s + 0) 32 (omega arith),
+        lt-ltb (s + 0) 32 (omega arith),
+        lt-ltb (b + 0) 64 (omega arith),
+        lt-ltb (31 - s + 0) 32 (omega arith),
         and-true (ltb (31 - r + p) 32),
       ) (same_end r p (omega arith) (omega arith)))
 
@@ -136,9 +136,9 @@ module _ (a b c r s : ℕ) (ha : a < 256) (hb : b < 256) (hc : c < 256) (hr : r 
       asks o w 0 0 0 (31 - p) p la lc (omega arith) (omega arith) (omega arith) (omega arith) (omega arith) (omega arith)
       (λ h. let n = outside h in ne_eqb s p (omega arith))
       (λ h. rw (
-        lt_ltb (r + 0) 32 (omega arith),
-        lt_ltb (b + 0) 64 (omega arith),
-        lt_ltb (31 - r + 0) 32 (omega arith),
+        lt-ltb (r + 0) 32 (omega arith),
+        lt-ltb (b + 0) 64 (omega arith),
+        lt-ltb (31 - r + 0) 32 (omega arith),
         and-true (ltb (31 - s + p) 32),
       ) (same_end s p (omega arith) (omega arith)))
 
@@ -149,7 +149,7 @@ module _ (a b c r s : ℕ) (ha : a < 256) (hb : b < 256) (hc : c < 256) (hr : r 
       let la = register_added a above ha l in
       clean_digits d0 (a + 256 * above) c d3 d4 d5 d6 d7
       (omega arith) la.small (omega arith) (omega arith) (omega arith) (omega arith) (omega arith)
-      ∙ rw (lt_ltb d0 32 h0, la.within, lt_ltb c 256 hc, lt_ltb d3 32 h3, lt_ltb d4 64 h4, lt_ltb d5 32 h5, lt_ltb d6 32 h6, h7) (and-true (register a))
+      ∙ rw (lt-ltb d0 32 h0, la.within, lt-ltb c 256 hc, lt-ltb d3 32 h3, lt-ltb d4 64 h4, lt-ltb d5 32 h5, lt-ltb d6 32 h6, h7) (and-true (register a))
 
   put : clean flags (sum 0 r s (at 1)) ≡ register a
   put = go (dec_lt b 32) (dec_lt b 128)
@@ -161,7 +161,7 @@ module _ (a b c r s : ℕ) (ha : a < 256) (hb : b < 256) (hc : c < 256) (hr : r 
           ap (clean flags) q ∙ free (r + 1) 0 s b (31 - r) (31 - s) 1 (omega arith) (omega arith) (omega arith) (omega arith) (omega arith) (omega arith) refl
       go (no h) (yes l) =
           let k = long_word_lem (omega arith) in
-          let m : long_word b ≡ 0 = rw (lt_ltb b 128 l) in
+          let m : long_word b ≡ 0 = rw (lt-ltb b 128 l) in
           let q : sum 0 r s (at 1) ≡ digits 1 (a + 256 * b) c 0 0 0 0 0 = omega arith in
           ap (clean flags) q ∙ free 1 b 0 0 0 0 0 (omega arith) l (omega arith) (omega arith) (omega arith) (omega arith) refl
       go (no h) (no l) =

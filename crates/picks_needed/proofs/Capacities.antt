@@ -7,7 +7,7 @@ use mathlib.Core.List.{List, [], ◌∷◌}
 use Prim.Native.Nat.{ℕ, zero, suc, ◌+◌, ◌<◌}
 use lib.IntN.{ℤ}
 use lib.ListN.{length, get_or, set}
-use lib.Seq.{get_or-set_same, get_or_set_other}
+use lib.Seq.{get_or-set_same, get_or-set_other}
 use Rattle.network.specs.declared.Network.{Network}
 use Rattle.network.specs.Rules.{capacity_of, passes}
 use Rattle.process.specs.declared.Channel.{Channel}
@@ -78,7 +78,7 @@ pub larger_same : (b : ℕ) (l : Lane) → b < length l.channels → (channel_of
 larger_same b l h = ap (λ (x : Channel). x.capacity) (get_or-set_same l.channels b (enlarge_one (channel_of l b)) no_channel h)
 
 pub larger_other : (b : ℕ) (l : Lane) (c : ℕ) → c ≢ b → (channel_of (larger b l) c).capacity ≡ (channel_of l c).capacity
-larger_other b l c n = ap (λ (x : Channel). x.capacity) (get_or_set_other l.channels b c (enlarge_one (channel_of l b)) no_channel n)
+larger_other b l c n = ap (λ (x : Channel). x.capacity) (get_or-set_other l.channels b c (enlarge_one (channel_of l b)) no_channel n)
 
 -- ---- a fresh lane
 pub fresh_capacity : (n : Network) (pass : passes n ≡ true) (c : ℕ) → c < 32 → (channel_of (fresh_of n) c).capacity ≡ capacity_of n c

@@ -5,7 +5,7 @@ use mathlib.Core.Bool.{Bool, true, false, ◌&&◌, true≢false}
 use mathlib.Core.List.{List, [], ◌∷◌, ◌++◌, append-nil}
 use Prim.Native.Nat.{ℕ, ◌<◌}
 use native.Mathlib.Omega.{arith}
-use borrow.Author.Tests.{eqb_true}
+use borrow.Author.Tests.{eqb-true}
 use lib.Dec.{eqb, ltb}
 use lib.IntN.{ℤ}
 use lib.ListN.{length}
@@ -38,7 +38,7 @@ none_fed : (d c : ℕ) (v : ℤ) (w : World) → (channel_of w.lane c).closed �
 none_fed d c v w e = at (eqb d c) refl
   where
     at : (t : Bool) → eqb d c ≡ t → one (t && was_accepted (apply (feed d v) w).reply) v ≡ []
-    at true q = let z : d ≡ c = eqb_true d c q in rw (z, none_accepted c v w e)
+    at true q = let z : d ≡ c = eqb-true d c q in rw (z, none_accepted c v w e)
     at false q = refl
 
 not_fed : (s : Step) (w : World) (c : ℕ) → (channel_of w.lane c).closed ≡ true → fed_at s w c ≡ []
@@ -80,4 +80,4 @@ module _ (n : Network) (pass : passes n ≡ true) where
       }
     where
       outer : (c : ℕ) → from_outside n c ≡ true → sender_in n c ≡ 255
-      outer c o = eqb_true (sender_in n c) 255 (sym (outside_is (ltb c n.channels) (sender_of n c)) ∙ o)
+      outer c o = eqb-true (sender_in n c) 255 (sym (outside_is (ltb c n.channels) (sender_of n c)) ∙ o)

@@ -9,7 +9,7 @@ use mathlib.Core.List.{List, [], ◌∷◌, ◌++◌}
 use Prim.Native.Nat.{ℕ, ◌+◌, ◌≤◌, ◌<◌, min}
 use native.Mathlib.Decide.{ℕ_discrete}
 use native.Mathlib.Omega.{arith}
-use lib.ListN.{length, length_append}
+use lib.ListN.{length, length-append}
 use borrow.Author.Tests.{eq-eqb, ne_eqb}
 use lib.Dec.{eqb}
 use Rattle.process.specs.Intent.{send}
@@ -22,7 +22,7 @@ use Rattle.picks_needed.specs.Totals.{total_of}
 use Rattle.picks_needed.proofs.Adding.{total_below, total_more}
 
 prefix_length : {A : Type 0} {l l' : List A} → Prefix l l' → length l ≤ length l'
-prefix_length {l = l} p = omega (arith, simp length_append at (ap length p.longer))
+prefix_length {l = l} p = omega (arith, simp length-append at (ap length p.longer))
 
 -- some turns lead from H to F
 abbrev pub Leads : (N : Net) → State N.X N.W → State N.X N.W → Type 0
@@ -54,7 +54,7 @@ module _ (N : Net) (F : State N.X N.W) (rest : (p : ℕ) → does N p F ≡ none
   leads_send p b v x f H i o l =
       let m : does N p H ≡ some (emit b v (λ _. x)) = rw (i, o) in
       let k = leads_sent (step N p H) (leads_step p H m l) b in
-      let e = ap (λ (T : State X W). length (T.sent b)) (step_moves N p H m) ∙ ap length (emitted p b v x H (mine p b v x f H i)) ∙ length_append (H.sent b) (v ∷ []) in
+      let e = ap (λ (T : State X W). length (T.sent b)) (step_moves N p H m) ∙ ap length (emitted p b v x H (mine p b v x f H i)) ∙ length-append (H.sent b) (v ∷ []) in
       omega (arith, k, e)
 
   -- ---- with all the input there

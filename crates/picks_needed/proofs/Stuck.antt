@@ -11,7 +11,7 @@ use native.Mathlib.Omega.{arith}
 use lib.Dec.{ltb}
 use lib.IntN.{ℤ}
 use lib.ListN.{replicate}
-use borrow.Author.Tests.{lt_ltb}
+use borrow.Author.Tests.{lt-ltb}
 use Rattle.base.proofs.Conjunction.{is_false}
 use Rattle.network.specs.declared.Network.{Network}
 use Rattle.network.specs.Rules.{sender_of, receiver_of, outside}
@@ -58,7 +58,7 @@ module _ (t : Task) (w : World) (H : State Process ℤ) (left : ℕ → List ℤ
 
   -- the end of a channel that is there, in the network's words and in the history's
   sender_is : (c : ℕ) → c < n.channels → sender_in n c ≡ sender_of n c
-  sender_is c h = ends_are (ltb c n.channels) (sender_of n c) (lt_ltb c n.channels h)
+  sender_is c h = ends_are (ltb c n.channels) (sender_of n c) (lt-ltb c n.channels h)
 
   abbrev Live : ℕ → Type 0
   Live q = (q < n.processes) × (has_ended (H.processes q) ≡ false)

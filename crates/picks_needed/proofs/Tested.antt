@@ -5,7 +5,7 @@ use mathlib.Core.List.{List}
 use mathlib.Core.Bool.{Bool, true, false, not, ◌&&◌, ◌||◌, false≢true}
 use Prim.Native.Nat.{ℕ, ◌/◌, ◌≤◌, ◌<◌}
 use native.Mathlib.Omega.{arith}
-use borrow.Author.Tests.{eqb_true, leb-true, eq-eqb}
+use borrow.Author.Tests.{eqb-true, leb-true, eq-eqb}
 use lib.Dec.{eqb, leb}
 use lib.ListN.{length}
 use Rattle.base.specs.Tests.{first_bad, is_good}
@@ -59,8 +59,8 @@ finishes_by n s N G e =
     let d = both_true (all_below (λ c. leb (length (s.sent c)) 256) n.channels) _ c.1 in
     record {
       all = all_below_lem (λ p. is_ended (s.processes p).condition) n.processes a.0;
-      moves = eqb_true _ _ b.0;
-      messages = eqb_true _ _ c.0;
+      moves = eqb-true _ _ b.0;
+      messages = eqb-true _ _ c.0;
       few = λ k l. leb-true _ _ (all_below_lem (λ c. leb (length (s.sent c)) 256) n.channels d.0 k l);
       room = λ k l. has_room_lem n s k (all_below_lem (has_room n s) n.channels d.1 k l);
     }

@@ -10,7 +10,7 @@ use native.Mathlib.Omega.{arith}
 use lib.Dec.{eqb, ltb}
 use lib.IntN.{ℤ}
 use lib.ListN.{length}
-use borrow.Author.Tests.{ltb-true, lt_ltb, eqb_true}
+use borrow.Author.Tests.{ltb-true, lt-ltb, eqb-true}
 use Rattle.base.proofs.Tests.{each_true}
 use Rattle.network.specs.declared.Network.{Network}
 use Rattle.network.specs.Rules.{sender_of, receiver_of, capacity_of, outside, end_right, record_right, records, passes}
@@ -41,7 +41,7 @@ pub ends_are : (t : Bool) (e : ℕ) → t ≡ true → cond t e 254 ≡ e
 ends_are t e h = rw h
 
 end_by_lem : (e processes : ℕ) → end_right e processes ≡ true → (e < processes) ⊎ (e ≡ outside)
-end_by_lem e processes h = ⊎_elim (λ q. inl (ltb-true e processes q)) (λ q. inr (eqb_true e outside q)) (either (ltb e processes) (eqb e outside) h)
+end_by_lem e processes h = ⊎_elim (λ q. inl (ltb-true e processes q)) (λ q. inr (eqb-true e outside q)) (either (ltb e processes) (eqb e outside) h)
 
 pub channel_ends : (n : Network) → passes n ≡ true → (c : ℕ) → c < n.channels
     → ((sender_of n c < n.processes) ⊎ (sender_of n c ≡ outside)) × ((receiver_of n c < n.processes) ⊎ (receiver_of n c ≡ outside))
@@ -54,7 +54,7 @@ channel_ends n pass c h =
 -- ---- a full channel has a receiver that has not ended, and holds as many as it may
 full_by : (gone : Bool) (held capacity : ℕ) → cond gone false (eqb held capacity) ≡ true → (gone ≡ false) × (held ≡ capacity)
 full_by true held capacity e = absurd (false≢true e)
-full_by false held capacity e = (refl, eqb_true held capacity e)
+full_by false held capacity e = (refl, eqb-true held capacity e)
 
 module _ (t : Task) where
   open t use {n, pass, input, s}
@@ -104,7 +104,7 @@ module _ (t : Task) where
 
     -- what it wants is on its instruction's channel
     wants_at : On (instruction_for q w.lane).b (wants_in n q x)
-    wants_at = rw (lt_ltb q n.processes h) (want_on (instruction_for q w.lane) x)
+    wants_at = rw (lt-ltb q n.processes h) (want_on (instruction_for q w.lane) x)
 
     owned : Owns (sender_in n) (receiver_in n) q (wants_in n q x)
     owned = (net t).owns q x
@@ -141,7 +141,7 @@ module _ (t : Task) where
           wants = ap (wants_in n q) (sym (R.same q)) ∙ k.wants;
           waits = (rw e at (picks n pass accepted b H out R q h)).0;
           there = m.there;
-          points = rw (lt_ltb q n.processes h, waits_so WaitEmpty e, m.at);
+          points = rw (lt-ltb q n.processes h, waits_so WaitEmpty e, m.at);
           unclosed = k.unclosed;
           unshut = sym (R.lines c m.low_channel).shut ∙ k.unclosed;
         }
@@ -162,9 +162,9 @@ module _ (t : Task) where
           there = m.there;
           at = rw (waits_so WaitFull e, m.at);
           room = rw (waits_so WaitFull e, m.at);
-          points = rw (lt_ltb q n.processes h, waits_so WaitFull e, m.at);
+          points = rw (lt-ltb q n.processes h, waits_so WaitFull e, m.at);
           mine = from;
-          alive = ap (ended_at w.lane) (sym (ends_are (ltb c n.channels) (receiver_of n c) (lt_ltb c n.channels m.there))) ∙ f.0;
+          alive = ap (ended_at w.lane) (sym (ends_are (ltb c n.channels) (receiver_of n c) (lt-ltb c n.channels m.there))) ∙ f.0;
           short = omega (arith, more, L.count, f.1);
         }
 

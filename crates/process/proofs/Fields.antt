@@ -8,8 +8,8 @@ use native.Mathlib.Decide.{dec_lt, ℕ_discrete}
 use native.Mathlib.Omega.{arith}
 use lib.Dec.{T}
 use lib.IntN.{ℤ}
-use lib.ListN.{get_or_eq_default}
-use borrow.Author.Tests.{ltb-true, eqb_true}
+use lib.ListN.{get_or-eq_default}
+use borrow.Author.Tests.{ltb-true, eqb-true}
 use Rattle.base.proofs.Conjunction.{both_true}
 use Rattle.network.specs.Code.{register, unnamed, fields_right}
 use Rattle.network.specs.declared.Instruction.{Instruction}
@@ -30,7 +30,7 @@ third s c e = ltb-true c 8 (both_true s (register c) e).1
 
 -- a first field that is not named
 first_zero : (a : ℕ) (s t : Bool) → unnamed a && s && t ≡ true → a < 8
-first_zero a s t e = let z : a ≡ 0 = eqb_true a 0 (both_true (unnamed a) s (both_true (unnamed a && s) t e).0).0 in omega arith
+first_zero a s t e = let z : a ≡ 0 = eqb-true a 0 (both_true (unnamed a) s (both_true (unnamed a && s) t e).0).0 in omega arith
 
 -- ---- by the opcode: 0 to 13 in turn, and those above
 module _ (P : ℕ → Type 0) where
@@ -94,7 +94,7 @@ own_low count receives sends i r =
         ),
       ),
     )
-    (λ l. let z : false ≡ true = rw get_or_eq_default at r in absurd (subst T (sym z) tt))
+    (λ l. let z : false ≡ true = rw get_or-eq_default at r in absurd (subst T (sym z) tt))
 
 -- register r of the eight is the file's from the base on
 pub register_in : (file : List ℤ) (base r : ℕ) → r < 8 → at (eight file base) r ≡ at file (base + r)
@@ -115,4 +115,4 @@ above l e = omega arith
 -- an opcode above 13 faults
 pub beyond : (i : Instruction) (q : Process) → 14 ≤ i.op → want_live i q ≡ halt (faulted q)
 unfolding want_live
-beyond i q h = rw get_or_eq_default
+beyond i q h = rw get_or-eq_default

@@ -9,7 +9,7 @@ use mathlib.Core.Logic.{◌⊎◌, inl, inr}
 use Prim.Native.Nat.{ℕ, ◌+◌, ◌≤◌, ◌<◌, max}
 use native.Mathlib.Omega.{arith}
 use lib.Dec.{T, eqb, lit<, lit≤}
-use lib.ListN.{length, length_set}
+use lib.ListN.{length, length-set}
 use lib.IntN.{ℤ}
 use borrow.Author.Tests.{ltb-true, eqb-false}
 use Rattle.base.proofs.Conjunction.{both_true}
@@ -130,7 +130,7 @@ module _ (G E : Process → Type 0) (i : Instruction) (q : Process)
     (jump : (k : ℕ) → 8 ≤ k → k < 12 → i.op ≡ k → G (jumped i.c q))
     (stop : E (stopped q)) (fault : E (faulted q)) where
   assigns : (v : ℤ) → may_be_last i.op ≡ false → G (assigned i.a v q)
-  assigns v n = next n _ (length_set q.registers i.a v)
+  assigns v n = next n _ (length-set q.registers i.a v)
 
   proceeds : may_be_last i.op ≡ false → G (onward q.registers q)
   proceeds n = next n q.registers refl

@@ -8,7 +8,7 @@ use mathlib.Core.List.{List, [], ◌++◌}
 use Prim.Native.Nat.{ℕ, ◌%◌, ◌≤◌, ◌<◌}
 use native.Mathlib.Decide.{dec_lt}
 use native.Mathlib.Omega.{arith}
-use borrow.Author.Tests.{lt_ltb, le-ltb, ltb-true, ltb-false, eq-eqb}
+use borrow.Author.Tests.{lt-ltb, le-ltb, ltb-true, ltb-false, eq-eqb}
 use lib.Dec.{ltb}
 use lib.ListN.{length, drop}
 use Rattle.network.specs.Rules.{outside}
@@ -168,7 +168,7 @@ module _ (l : Lane) (buffer : List ℕ) where
         go o a (grew ring c h) e = absurd (differ (λ z. omega arith) e)
 
         back : (ring : List ℕ) (c : ℕ) → Taken (pointing l) (full_wait l) (waits_at l) l.network.processes ring c → length buffer < length ring → (relieve_of l buffer).answer ≡ refused 15
-        back ring c t h = answer_is (found ring c) ((lane_found l s ring c).1 t) ∙ rw (lt_ltb (length buffer) (length ring) h)
+        back ring c t h = answer_is (found ring c) ((lane_found l s ring c).1 t) ∙ rw (lt-ltb (length buffer) (length ring) h)
 
     -- "The answer names ring .. and channel": the ring that is taken, of n processes, and its channel c
     pub answers_ring : (n c : ℕ)
@@ -224,5 +224,5 @@ pub would_wait : (w : World) (p : ℕ) → length w.cells ≡ 8192 → sound_of 
 unfolding calls.pick_of
 would_wait w p long s h =
     wait_any w.lane w.cells p
-    ∙ rw (eq-eqb (length w.cells) 8192 long, s, lt_ltb p w.lane.network.processes h)
+    ∙ rw (eq-eqb (length w.cells) 8192 long, s, lt-ltb p w.lane.network.processes h)
     (told_wait (step_for p w).outcome (channel_in (instruction_for p w.lane)))

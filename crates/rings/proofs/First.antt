@@ -4,7 +4,7 @@ use mathlib.Core.Path.{◌≡◌, refl, ap, ◌∙◌}
 use mathlib.Core.Bool.{Bool, true, false, cond}
 use Prim.Native.Nat.{ℕ, zero, suc, ◌+◌, ◌-◌, ◌≤◌, ◌<◌}
 use native.Mathlib.Decide.{ℕ_discrete}
-use native.Mathlib.Numerals.{add_one}
+use native.Mathlib.Numerals.{add-one}
 use native.Mathlib.Omega.{arith}
 use Rattle.rings.specs.Rings.{first_from}
 
@@ -23,7 +23,7 @@ module _ (test : ℕ → Bool) where
   -- ---- the steps of a loop at place i of those before e
   pub on : (i e : ℕ) → i < e → test i ≡ false → first_from test (i + 1) (e - (i + 1)) ≡ first_from test i (e - i)
   unfolding first_from
-  on i e h g = let l : e - i ≡ suc (e - (i + 1)) = omega arith in rw (l, g, add_one)
+  on i e h g = let l : e - i ≡ suc (e - (i + 1)) = omega arith in rw (l, g, add-one)
 
   pub stop : (i e : ℕ) → i < e → test i ≡ true → first_from test i (e - i) ≡ i
   unfolding first_from

@@ -7,7 +7,7 @@ use mathlib.Core.List.{List, [], ◌∷◌}
 use Prim.Native.Nat.{ℕ, zero, suc, ◌+◌, ◌≤◌, ◌<◌}
 use native.Mathlib.Decide.{dec_lt}
 use native.Mathlib.Omega.{arith}
-use borrow.Author.Tests.{lt_ltb, le-ltb}
+use borrow.Author.Tests.{lt-ltb, le-ltb}
 use Rattle.rings.specs.Rings.{iter, ring_length, chain, ring_of, some_below, lesser, least, on_ring_below, first_from, found_at, search}
 use Rattle.rings.proofs.Pointings.{iter_shift, Stays}
 use Rattle.rings.proofs.Circles.{length_says, on}
@@ -54,7 +54,7 @@ module _ (f : ℕ → ℕ) (P : ℕ) (stays : Stays f P) where
         (least_same (cond (lesser (full' q) (chan' q) (full' r) (chan' r)) q r) qs (one_of (lesser (full' q) (chan' q) (full' r) (chan' r)) q r P w.0 h) w.1)
 
     at_same : (p q : ℕ) → Dec (p < P) → found_at f full chan P p q ≡ found_at f full' chan' P p q
-    at_same p q (yes h) = let m = least_same p (ring_of f P p) h (ring_within p h) in rw (lt_ltb p P h, m.0, d _ m.1)
+    at_same p q (yes h) = let m = least_same p (ring_of f P p) h (ring_within p h) in rw (lt-ltb p P h, m.0, d _ m.1)
     at_same p q (no h) = rw (le-ltb p P (omega arith))
 
     on_same : (limit : ℕ) → first_from (on_ring_below f full P limit) 0 P ≡ first_from (on_ring_below f full' P limit) 0 P

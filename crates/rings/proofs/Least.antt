@@ -7,7 +7,7 @@ use mathlib.Core.List.{List, [], ◌∷◌, ◌++◌}
 use Prim.Native.Nat.{ℕ, zero, suc, ◌≤◌, ◌<◌}
 use native.Mathlib.Decide.{dec_lt}
 use native.Mathlib.Omega.{arith}
-use borrow.Author.Tests.{lt_ltb, ltb-true, ltb-false, eq-eqb, eqb_true, eqb-false, ne_eqb, not-true}
+use borrow.Author.Tests.{lt-ltb, ltb-true, ltb-false, eq-eqb, eqb-true, eqb-false, ne_eqb, not-true}
 use lib.Dec.{eqb, ltb}
 use lib.ListN.{length, get_or}
 use Rattle.base.proofs.Conjunction.{iff, both_true}
@@ -47,12 +47,12 @@ module _ (full chan : ℕ → ℕ) where
 
       at : (s t : Bool) → eqb (full r) 0 ≡ s → ltb (full q) (full r) ≡ t → (full r ≡ 0 → ⊥)
           → (full q ≡ 0 → ⊥) × ((full q < full r) ⊎ ((full q ≡ full r) × (chan q ≤ chan r)))
-      at true t x y m = absurd (m (eqb_true (full r) 0 x))
+      at true t x y m = absurd (m (eqb-true (full r) 0 x))
       at false true x y m = (n, inl (ltb-true (full q) (full r) y))
       at false false x y m =
           let z = both_true (eqb (full q) (full r)) (ltb (chan q) (chan r)) (rw (x, y) at b.1) in
           let l = ltb-true (chan q) (chan r) z.1 in
-          (n, inr (eqb_true (full q) (full r) z.0, omega arith))
+          (n, inr (eqb-true (full q) (full r) z.0, omega arith))
   lesser_before q r false e = (λ n. go n (dec_lt (full r) (full q)), before_same r)
     where
       fails : (a b c d : Bool) → (not a && (b || c || d)) ≡ false → a ≡ false → (b ≡ false) × (c ≡ false) × (d ≡ false)
@@ -110,7 +110,7 @@ module _ (full : ℕ → ℕ) (limit : ℕ) where
   below_says q e = let b = both_true (not (eqb (full q) 0)) (ltb (full q) limit) e in (eqb-false (full q) 0 (not-true _ b.0), ltb-true (full q) limit b.1)
 
   pub says_below : (q : ℕ) → (full q ≡ 0 → ⊥) → full q < limit → Below full limit q ≡ true
-  says_below q n h = rw (ne_eqb (full q) 0 n, lt_ltb (full q) limit h)
+  says_below q n h = rw (ne_eqb (full q) 0 n, lt-ltb (full q) limit h)
 
   pub some_at : (xs : List ℕ) → some_below full limit xs ≡ true → (i : ℕ) × (i < length xs) × (Below full limit (get_or xs i 0) ≡ true)
   some_at [] e = absurd (false≢true e)

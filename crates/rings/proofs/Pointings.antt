@@ -3,7 +3,7 @@
 use mathlib.Core.Path.{◌≡◌, refl, ap, ◌∙◌}
 use mathlib.Core.List.{List, [], ◌∷◌, ◌++◌}
 use Prim.Native.Nat.{ℕ, zero, suc, ◌≤◌, ◌<◌}
-use borrow.Author.Tests.{lt_ltb, le-ltb}
+use borrow.Author.Tests.{lt-ltb, le-ltb}
 use lib.ListN.{length, get_or}
 use Rattle.network.specs.Rules.{outside}
 use Rattle.rings.specs.Rings.{iter, chain}
@@ -35,7 +35,7 @@ Stays f P = (x : ℕ) → P ≤ x → P ≤ f x
 module _ (points : List ℕ) (P : ℕ) where
   pub points_at : (p : ℕ) → p < P → points_in points P p ≡ get_or points p 0
   unfolding points_in
-  points_at p h = rw (lt_ltb p P h)
+  points_at p h = rw (lt-ltb p P h)
 
   pub points_off : (p : ℕ) → P ≤ p → points_in points P p ≡ outside
   unfolding points_in

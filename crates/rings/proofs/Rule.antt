@@ -7,9 +7,9 @@ use mathlib.Core.Bool.{Bool, true, false, cond, true≢false, false≢true}
 use mathlib.Core.List.{List, ◌∷◌}
 use Prim.Native.Nat.{ℕ, zero, suc, ◌+◌, ◌-◌, ◌≤◌, ◌<◌}
 use native.Mathlib.Decide.{dec_lt}
-use native.Mathlib.Numerals.{add_one}
+use native.Mathlib.Numerals.{add-one}
 use native.Mathlib.Omega.{arith}
-use borrow.Author.Tests.{lt_ltb, ltb-true, ltb-false}
+use borrow.Author.Tests.{lt-ltb, ltb-true, ltb-false}
 use lib.Dec.{ltb}
 use lib.ListN.{length, get_or}
 use lib.Seq.{ext_get_or}
@@ -32,7 +32,7 @@ module _ (f : ℕ → ℕ) where
       record {
         some = omega (arith, r.some);
         begins = chain_at f k p 0 r.some;
-        follows = λ i h. chain_at f k p (i + 1) (omega arith) ∙ ap (λ (m : ℕ). iter f m p) (add_one i) ∙ ap f (sym (chain_at f k p i (omega arith)));
+        follows = λ i h. chain_at f k p (i + 1) (omega arith) ∙ ap (λ (m : ℕ). iter f m p) (add-one i) ∙ ap f (sym (chain_at f k p i (omega arith)));
         closes =
             ap f (chain_at f k p (length (chain f k p) - 1) (omega (arith, r.some)))
             ∙ ap (λ (m : ℕ). iter f m p) (let q : suc (length (chain f k p) - 1) ≡ k = omega (arith, r.some) in q)
@@ -44,7 +44,7 @@ module _ (f : ℕ → ℕ) where
     pub ring_at : (i : ℕ) → i < length ring → get_or ring i 0 ≡ iter f i p
     unfolding iter
     ring_at zero h = s.begins
-    ring_at (suc i) h = ap (λ (m : ℕ). get_or ring m 0) (sym (add_one i)) ∙ s.follows i (omega arith) ∙ ap f (ring_at i (omega arith))
+    ring_at (suc i) h = ap (λ (m : ℕ). get_or ring m 0) (sym (add-one i)) ∙ s.follows i (omega arith) ∙ ap f (ring_at i (omega arith))
 
     ring_closes : iter f (length ring) p ≡ p
     unfolding iter
@@ -257,7 +257,7 @@ module _ (f full : ℕ → ℕ) (P : ℕ) (stays : Stays f P) where
             let r : ring ≡ ring_of f P p = ring_only f p ring t.listed P stays there in
             let k = taken p there on_p before in
             let g : chan (least full chan p (ring_of f P p)) ≡ c = grows_one (ring_of f P p) _ c k.grows (subst (λ (xs : List ℕ). Grows full chan xs c) r t.grows) in
-            search_is true (ltb any_first P) (lt_ltb low_first P (omega arith)) refl
+            search_is true (ltb any_first P) (lt-ltb low_first P (omega arith)) refl
             ∙ rw (at, g, ← r)
 
     -- ---- a capacity is at most 256

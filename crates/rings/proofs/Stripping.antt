@@ -8,7 +8,7 @@ use mathlib.Core.Bool.{Bool, true, false, not, ◌&&◌, true≢false}
 use Prim.Native.Nat.{ℕ, zero, suc, ◌-◌, ◌≤◌, ◌<◌}
 use native.Mathlib.Decide.{ℕ_discrete}
 use native.Mathlib.Omega.{arith}
-use borrow.Author.Tests.{lt_ltb, ltb-true, eq-eqb, ne_eqb, eqb_true, eqb-false, not-true}
+use borrow.Author.Tests.{lt-ltb, ltb-true, eq-eqb, ne_eqb, eqb-true, eqb-false, not-true}
 use lib.Dec.{eqb}
 use Rattle.base.proofs.Conjunction.{both_true, true_both, iff}
 use Rattle.rings.specs.Rings.{iter, OnRing, ring_length}
@@ -50,7 +50,7 @@ module _ (f : ℕ → ℕ) (P : ℕ) (stays : Stays f P) where
     pointer_left q n =
         let k = tally_some (λ p. left p && eqb (f p) q) P n in
         let b = both_true (left k.0) (eqb (f k.0) q) k.2 in
-        (k.0, k.1, b.0, eqb_true (f k.0) q b.1)
+        (k.0, k.1, b.0, eqb-true (f k.0) q b.1)
 
     -- where all on rings are left, each of them is pointed to
     pub ring_pointed : ((p : ℕ) → OnRing f P p → left p ≡ true) → (q : ℕ) → OnRing f P q → pointers f P left q ≡ 0 → ⊥
@@ -80,7 +80,7 @@ module _ (f : ℕ → ℕ) (P : ℕ) (stays : Stays f P) where
 
   round_ring : (n p : ℕ) → OnRing f P p → left_after f P n p ≡ true
   unfolding left_after
-  round_ring zero p o = lt_ltb p P o.0
+  round_ring zero p o = lt-ltb p P o.0
   round_ring (suc n) p o = true_both _ _ (round_ring n p o) (ap not (ne_eqb _ 0 (ring_pointed (left_after f P n) (round_ring n) p o)))
 
   round_far : (n q : ℕ) → left_after f P n q ≡ true → (p : ℕ) × (iter f n p ≡ q)

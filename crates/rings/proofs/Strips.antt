@@ -7,10 +7,10 @@ use mathlib.Core.List.{List}
 use Prim.Native.Nat.{ℕ, suc, ◌+◌, ◌-◌, ◌≤◌, ◌<◌}
 use native.Mathlib.Decide.{ℕ_discrete}
 use native.Mathlib.Omega.{arith}
-use borrow.Author.Tests.{lt_ltb, eq-eqb, ne_eqb}
+use borrow.Author.Tests.{lt-ltb, eq-eqb, ne_eqb}
 use lib.Dec.{eqb, ltb}
-use lib.ListN.{length, get_or, set, length_set}
-use lib.Seq.{get_or-set_same, get_or_set_other}
+use lib.ListN.{length, get_or, set, length-set}
+use lib.Seq.{get_or-set_same, get_or-set_other}
 use Rattle.base.specs.Lists.{table}
 use Rattle.base.proofs.Conjunction.{true_both, iff}
 use Rattle.base.proofs.Lists.{length_values, table_at, table_is}
@@ -32,13 +32,13 @@ module _ (f : ℕ → ℕ) (P : ℕ) (numbers : List ℕ) (n : ℕ) (t : Counted
 
   -- one process more, which points to `to`
   pub counted_more : n < P → (to : ℕ) → to < 256 → f n ≡ to → Counted f P (set numbers to (get_or numbers to 0 + 1)) (n + 1)
-  counted_more more to h e = record { within = omega arith; size = length_set numbers to _ ∙ t.size; says = λ q l. go q l (ℕ_discrete q to) }
+  counted_more more to h e = record { within = omega arith; size = length-set numbers to _ ∙ t.size; says = λ q l. go q l (ℕ_discrete q to) }
     where
       go : (q : ℕ) → q < 256 → Dec (q ≡ to) → get_or (set numbers to (get_or numbers to 0 + 1)) q 0 ≡ tally (λ k. eqb (f k) q) (n + 1)
       go q l (yes d) =
           rw (d, get_or-set_same numbers to (get_or numbers to 0 + 1) 0 (omega (arith, t.size)), tally_yes (λ k. eqb (f k) to) n (eq-eqb (f n) to e))
           (ap (λ (k : ℕ). k + 1) (t.says to h))
-      go q l (no d) = get_or_set_other numbers to q _ 0 d ∙ t.says q l ∙ sym (tally_no (λ k. eqb (f k) q) n (ne_eqb (f n) q (λ g. d (sym g ∙ e))))
+      go q l (no d) = get_or-set_other numbers to q _ 0 d ∙ t.says q l ∙ sym (tally_no (λ k. eqb (f k) q) n (ne_eqb (f n) q (λ g. d (sym g ∙ e))))
 
   -- of all processes
   pub counted_all : P ≤ n → numbers ≡ table 256 (pointers f P (left_after f P 0))
@@ -47,7 +47,7 @@ module _ (f : ℕ → ℕ) (P : ℕ) (numbers : List ℕ) (n : ℕ) (t : Counted
       table_is (pointers f P (λ p. ltb p P)) 256 0 numbers t.size
       (λ q l.
       t.says q l ∙ ap (tally (λ p. eqb (f p) q)) (omega (arith, t.within))
-      ∙ tally_same (λ p. eqb (f p) q) (λ p. ltb p P && eqb (f p) q) P (λ k m. rw (lt_ltb k P m)))
+      ∙ tally_same (λ p. eqb (f p) q) (λ p. ltb p P && eqb (f p) q) P (λ k m. rw (lt-ltb k P m)))
 
 -- ---- stripping: who is left where those from n on were not looked at yet, and the numbers that go with it
 pub record Left (f : ℕ → ℕ) (P : ℕ) (numbers : List ℕ) (n : ℕ) (left : ℕ → Bool) : Type 0 where
@@ -83,7 +83,7 @@ pointed_to numbers = tally (λ q. not (eqb (get_or numbers q 0) 0)) 16
 module _ (f : ℕ → ℕ) (P : ℕ) (small : P ≤ 16) (stays : Stays f P) where
   all : (p : ℕ) → p < P → left_after f P 0 p ≡ true
   unfolding left_after
-  all p h = lt_ltb p P h
+  all p h = lt-ltb p P h
 
   pub strip_start : (numbers : List ℕ) → numbers ≡ table 256 (pointers f P (left_after f P 0)) → Stripping f P numbers 0
   strip_start numbers e = (
@@ -178,7 +178,7 @@ module _ (f : ℕ → ℕ) (P : ℕ) (small : P ≤ 16) (stays : Stays f P) wher
 
       lowered_other : (p : ℕ) → (p ≡ to → ⊥) → get_or lowered p 0 ≡ get_or numbers p 0
       unfolding lowered
-      lowered_other p d = get_or_set_other numbers to p _ 0 d
+      lowered_other p d = get_or-set_other numbers to p _ 0 d
 
       still_rings : (p : ℕ) → OnRing f P p → without p ≡ true
       still_rings p o = sym (without_other p off) ∙ g.has.rings p o
@@ -210,7 +210,7 @@ module _ (f : ℕ → ℕ) (P : ℕ) (small : P ≤ 16) (stays : Stays f P) wher
 
       still : Left f P lowered (start + 1) without
       unfolding lowered
-      still = record { size = length_set numbers to _ ∙ g.has.size; counted = still_counted; rings = still_rings; later = still_later; stripped = still_stripped }
+      still = record { size = length-set numbers to _ ∙ g.has.size; counted = still_counted; rings = still_rings; later = still_later; stripped = still_stripped }
 
       still_kept : (p : ℕ) → p ≤ start → (p ≡ to → ⊥) → without p ≡ true → get_or lowered p 0 ≡ 0 → ⊥
       still_kept p l d y z = let b = without_left p y in g.kept p l b.0 b.1 (sym (lowered_other p d) ∙ z)
@@ -254,7 +254,7 @@ module _ (f : ℕ → ℕ) (P : ℕ) (small : P ≤ 16) (stays : Stays f P) wher
           (omega arith)
           (ap not (ne_eqb (get_or numbers to 0) 0 (λ e. omega (arith, goes_some w))))
           (ap not (eq-eqb (get_or (set numbers to (get_or numbers to 0 - 1)) to 0) 0 z))
-          (λ k l n. ap (λ (m : ℕ). not (eqb m 0)) (sym (get_or_set_other numbers to k _ 0 n)))
+          (λ k l n. ap (λ (m : ℕ). not (eqb m 0)) (sym (get_or-set_other numbers to k _ 0 n)))
 
   -- ---- all were looked at
   pub strip_end : (numbers : List ℕ) (start : ℕ) → Stripping f P numbers start → P ≤ start → numbers ≡ table 256 (pointers f P (left_of f P))

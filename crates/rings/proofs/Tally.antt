@@ -4,7 +4,7 @@ use mathlib.Core.Path.{◌≡◌, refl, sym, ap, ◌∙◌}
 use mathlib.Core.Bool.{Bool, true, false, cond, true≢false}
 use Prim.Native.Nat.{ℕ, zero, suc, ◌+◌, ◌≤◌, ◌<◌}
 use native.Mathlib.Decide.{ℕ_discrete}
-use native.Mathlib.Numerals.{add_one}
+use native.Mathlib.Numerals.{add-one}
 use native.Mathlib.Omega.{arith}
 use Rattle.rings.specs.Left.{tally}
 
@@ -12,11 +12,11 @@ use Rattle.rings.specs.Left.{tally}
 module _ (test : ℕ → Bool) (n : ℕ) where
   pub tally_yes : test n ≡ true → tally test (n + 1) ≡ tally test n + 1
   unfolding tally
-  tally_yes e = rw (add_one n, e) (sym (add_one (tally test n)))
+  tally_yes e = rw (add-one n, e) (sym (add-one (tally test n)))
 
   pub tally_no : test n ≡ false → tally test (n + 1) ≡ tally test n
   unfolding tally
-  tally_no e = rw (add_one n, e)
+  tally_no e = rw (add-one n, e)
 
 module _ (test : ℕ → Bool) where
   -- at most all

@@ -5,11 +5,11 @@ use mathlib.Core.Bool.{Bool, true, false, cond, not, ◌&&◌, ◌||◌}
 use mathlib.Core.List.{List, ◌∷◌}
 use Prim.Native.Nat.{ℕ, ◌+◌, ◌-◌, ◌≤◌, ◌<◌}
 use native.Mathlib.Decide.{ℕ_discrete, dec_lt}
-use native.Mathlib.Numerals.{add_one}
+use native.Mathlib.Numerals.{add-one}
 use native.Mathlib.Omega.{arith}
-use borrow.Author.Tests.{lt_ltb, le-ltb}
+use borrow.Author.Tests.{lt-ltb, le-ltb}
 use lib.Dec.{eqb, ltb}
-use lib.ListN.{length, take, set, length_set}
+use lib.ListN.{length, take, set, length-set}
 use lib.Seq.{take-suc-set}
 use Rattle.base.proofs.Conjunction.{or_true, or_false}
 use Rattle.rings.specs.Rings.{iter, ring_length, chain, ring_of, some_below, lesser, least, on_ring_below, first_from, no_ring, ceiling, found, search}
@@ -65,10 +65,10 @@ module _ (f full chan : ℕ → ℕ) (P : ℕ) (small : P ≤ 16) where
     module _ (to : ℕ) (et : f at ≡ to) where
       steps : iter f (n + 1) start ≡ to
       unfolding iter
-      steps = rw (add_one, ← t.there) et
+      steps = rw (add-one, ← t.there) et
 
       wrote : take (n + 1) (set ring n at) ≡ chain f (n + 1) start
-      wrote = rw (add_one, take-suc-set ring n at (omega (arith, t.size, trail_low)), t.listed, chain_more f n start, t.there)
+      wrote = rw (add-one, take-suc-set ring n at (omega (arith, t.size, trail_low)), t.listed, chain_more f n start, t.there)
 
       -- which is inside
       pub trail_inside : Stays f P → to < P
@@ -81,7 +81,7 @@ module _ (f full chan : ℕ → ℕ) (P : ℕ) (small : P ≤ 16) where
         best : least full chan start (chain f (n + 1 + 1) start)
             ≡ cond (lesser (full to) (chan to) capacity channel) to (least full chan start (chain f (n + 1) start))
         best =
-            rw (add_one (n + 1), chain_more f (n + 1) start, least_more full chan (chain f (n + 1) start) start (iter f (n + 1) start), steps, ← t.room, ← t.number)
+            rw (add-one (n + 1), chain_more f (n + 1) start, least_more full chan (chain f (n + 1) start) start (iter f (n + 1) start), steps, ← t.room, ← t.number)
 
         room' : capacity' ≡ full (least full chan start (chain f (n + 1 + 1) start))
         room' =
@@ -101,7 +101,7 @@ module _ (f full chan : ℕ → ℕ) (P : ℕ) (small : P ≤ 16) where
               short = on_more (ℕ_discrete (n + 1) (ring_length f P start));
               there = sym steps;
               inside = trail_inside stays;
-              size = length_set ring n at ∙ t.size;
+              size = length-set ring n at ∙ t.size;
               listed = wrote;
               room = room';
               number = number';
@@ -129,7 +129,7 @@ module _ (f full chan : ℕ → ℕ) (P : ℕ) (small : P ≤ 16) where
         pub trail_below : (limit : ℕ) → on_ring_below f full P limit start ≡ (not (eqb capacity 0) && ltb capacity limit)
         unfolding chain
         trail_below limit =
-            let c : ring_of f P start ≡ start ∷ chain f n (f start) = ap (λ (k : ℕ). chain f k start) (closed ∙ add_one n) in
+            let c : ring_of f P start ≡ start ∷ chain f n (f start) = ap (λ (k : ℕ). chain f k start) (closed ∙ add-one n) in
             let r : full (least full chan start (start ∷ chain f n (f start))) ≡ capacity =
             ap (λ (l : List ℕ). full (least full chan start l)) (sym c) ∙ ap (λ (k : ℕ). full (least full chan start (chain f k start))) closed ∙ sym t.room in
             ap (some_below full limit) c ∙ some_least full limit chan (chain f n (f start)) start ∙ ap (λ (k : ℕ). not (eqb k 0) && ltb k limit) r
@@ -161,7 +161,7 @@ module _ (f full : ℕ → ℕ) (P : ℕ) where
     higher : (t : Bool) → on_ring_below f full P 257 start ≡ t
         → ((high || t) || ltb (first_from (on_ring_below f full P 257) (start + 1) (P - (start + 1))) P) ≡ ltb (first_from (on_ring_below f full P 257) 0 P) P
     higher true e =
-        let z : ltb (first_from (on_ring_below f full P 257) start (P - start)) P ≡ true = rw (first.stop (on_ring_below f full P 257) start P more e) (lt_ltb start P more) in
+        let z : ltb (first_from (on_ring_below f full P 257) start (P - start)) P ≡ true = rw (first.stop (on_ring_below f full P 257) start P more e) (lt-ltb start P more) in
         rw (or_true high) (sym (or_true high) ∙ (rw z at s.ceiling))
     higher false e = rw (or_false high, first.on (on_ring_below f full P 257) start P more e) s.ceiling
 
@@ -186,7 +186,7 @@ module _ (f full : ℕ → ℕ) (P : ℕ) where
     unfolding search
     search_found chan e =
         let q : first_from (on_ring_below f full P 256) 0 P ≡ start = sym s.below ∙ first.stop (on_ring_below f full P 256) start P more e in
-        rw (q, lt_ltb start P more)
+        rw (q, lt-ltb start P more)
 
   -- all are passed
   pub search_none : (chan : ℕ → ℕ) (ring : List ℕ) (start : ℕ) (high : Bool) → Passed f full P ring start high → P ≤ start → cond high ceiling no_ring ≡ search f full chan P

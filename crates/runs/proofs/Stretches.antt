@@ -4,12 +4,12 @@ use mathlib.Core.Path.{◌≡◌, refl, sym, ap, ◌∙◌}
 use mathlib.Core.Bool.{Bool, true, false, cond, ◌||◌, not, true≢false}
 use mathlib.Core.List.{List, [], ◌∷◌, ◌++◌}
 use Prim.Native.Nat.{ℕ, suc, ◌+◌, ◌-◌, ◌≤◌, ◌<◌}
-use native.Mathlib.Numerals.{add_one}
+use native.Mathlib.Numerals.{add-one}
 use native.Mathlib.Omega.{arith}
 use borrow.Author.Tests.{ltb-true, eq-eqb, ne_eqb, not-false}
 use lib.Dec.{eqb}
 use lib.IntN.{ℤ}
-use lib.ListN.{length, get_or, take, drop, replicate, length-take, length_drop, take-append-drop, drop_of_length-le}
+use lib.ListN.{length, get_or, take, drop, replicate, length-take, length-drop, take-append-drop, drop_of_length-le}
 use lib.Seq.{drop-cons, drop-drop, get_or-drop, get_or-take}
 use Rattle.base.specs.Tests.{first_bad, is_good}
 use Rattle.network.specs.declared.Network.{Network}
@@ -49,7 +49,7 @@ module _ (bytes : List ℕ) (i e : ℕ) (s : Stretch bytes i e) where
   part_inside k h = omega (arith, length-take (e - i) (drop i bytes))
 
   pub part_length : length (part bytes i e) ≡ e - i
-  part_length = simp (length-take, length_drop) (omega (arith, s.from, s.within))
+  part_length = simp (length-take, length-drop) (omega (arith, s.from, s.within))
 
   split : drop i bytes ≡ part bytes i e ++ drop e bytes
   split =
@@ -74,7 +74,7 @@ unfolding byte_run
 byte_relief b r f = rw (eq-eqb b 255 f)
 
 relief_runs : (bytes : List ℕ) (e : ℕ) (r : Running) → e < length bytes → get_or bytes e 0 ≡ 255 → bytes_run (drop e bytes) r ≡ bytes_run (drop (e + 1) bytes) (relieves r)
-relief_runs bytes e r h f = rw (add_one e, drop-cons bytes e 0 h) (ap (bytes_run (drop (suc e) bytes)) (byte_relief (get_or bytes e 0) r f))
+relief_runs bytes e r h f = rw (add-one e, drop-cons bytes e 0 h) (ap (bytes_run (drop (suc e) bytes)) (byte_relief (get_or bytes e 0) r f))
 
 -- ---- what the tests before the first pick say of each byte
 pub one_of : (a b : Bool) → (a || b) ≡ true → b ≡ false → a ≡ true

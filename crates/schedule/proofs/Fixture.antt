@@ -7,7 +7,7 @@ use mathlib.Core.List.{List, [], ◌∷◌, ◌++◌}
 use Prim.Native.Nat.{ℕ}
 use native.Mathlib.Omega.{arith}
 use lib.Dec.{eqb}
-use lib.ListN.{replicate, length_replicate}
+use lib.ListN.{replicate, length-replicate}
 use lib.IntN.{ℤ, pos}
 use Rattle.base.specs.Tests.{in_turn}
 use Rattle.base.specs.Lists.{values}
@@ -48,7 +48,7 @@ unfolding fresh_of values
 fresh_shaped = record { registers = refl; processes = refl; channels = refl }
 
 pub fresh_cells : cells_wrong fresh ≡ false
-fresh_cells = ap (λ n. not (eqb n 8192)) (length_replicate {A = ℤ} 8192 (pos 0))
+fresh_cells = ap (λ n. not (eqb n 8192)) (length-replicate {A = ℤ} 8192 (pos 0))
 
 pub fresh_safe : unsound fresh ≡ false
 fresh_safe = rw (fresh_sound own own_passes)

@@ -5,7 +5,7 @@ use mathlib.Core.Bool.{true, false}
 use mathlib.Core.List.{List, [], ◌∷◌}
 use Prim.Native.Nat.{ℕ, suc, ◌<◌}
 use native.Mathlib.Omega.{arith}
-use borrow.Author.Tests.{eqb_true, not-false}
+use borrow.Author.Tests.{eqb-true, not-false}
 use lib.ListN.{length, get_or, replicate}
 use Rattle.network.specs.declared.Network.{Network}
 use Rattle.network.proofs.Passed.{passed}
@@ -67,4 +67,4 @@ module _ (n : Network) where
 
 -- from the tests on
 pub ready : (w : World) → Shaped w.lane → cells_wrong w ≡ false → unsound w ≡ false → Ready w.lane.network w
-ready w shaped e f = record { same = refl; long = eqb_true _ _ (not-false _ e); shaped = shaped; sound = not-false _ f }
+ready w shaped e f = record { same = refl; long = eqb-true _ _ (not-false _ e); shaped = shaped; sound = not-false _ f }

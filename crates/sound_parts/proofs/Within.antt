@@ -5,7 +5,7 @@ use mathlib.Core.Path.{◌≡◌, refl, ap, ◌∙◌}
 use Prim.Native.Nat.{ℕ, zero, suc, ◌+◌, ◌-◌, ◌*◌, ◌/◌, ◌%◌, ◌<◌}
 use native.Mathlib.Nat.{mod-eq_of_lt}
 use native.Mathlib.Omega.{arith}
-use borrow.Author.Tests.{leb-true, le-leb, eqb_true, eq-eqb}
+use borrow.Author.Tests.{leb-true, le-leb, eqb-true, eq-eqb}
 use lib.Bits.{bit_and, and_high}
 use lib.Dec.{leb}
 use Rattle.base.specs.Tests.{between}
@@ -19,7 +19,7 @@ upper high d h =
     let q : (65536 * high + d) / 256 ≡ 256 * high + d / 256 = omega arith in
     let r : (256 * high + d / 256) % 256 ≡ d / 256 = omega arith in
     let f : bit_and (65536 * high + d) 0xFF00 ≡ d / 256 * 256 = e ∙ rw (q, r) in
-    iff _ _ (omega (arith, eqb_true, le-leb)) (omega (arith, leb-true, eq-eqb))
+    iff _ _ (omega (arith, eqb-true, le-leb)) (omega (arith, leb-true, eq-eqb))
 
 -- a capacity from 1 on, less 1
 from_one : (k : ℕ) → leb k 255 ≡ between 1 (suc k) 256
@@ -38,4 +38,4 @@ pub above_clean : (a b : ℕ) → a < 65536 → b < 65536 → clean 0x10000 (a +
 above_clean a b h l =
     let e : bit_and (a + 0xFFFF - b) 0x10000 ≡ (a + 0xFFFF - b) / 65536 % 2 * 65536 = and_high (a + 0xFFFF - b) 1 16 in
     let q : (a + 0xFFFF - b) / 65536 % 2 ≡ (a + 0xFFFF - b) / 65536 = mod-eq_of_lt (omega arith) in
-    iff _ _ (omega (arith, eqb_true, le-leb)) (omega (arith, leb-true, eq-eqb))
+    iff _ _ (omega (arith, eqb-true, le-leb)) (omega (arith, leb-true, eq-eqb))

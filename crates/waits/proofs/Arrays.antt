@@ -6,12 +6,12 @@ use mathlib.Core.List.{List}
 use Prim.Native.Nat.{ℕ, zero, suc, ◌+◌, ◌-◌, ◌≤◌, ◌<◌}
 use native.Mathlib.Decide.{ℕ_discrete}
 use native.Mathlib.Nat.{not-suc-le-zero}
-use native.Mathlib.Numerals.{add_one}
+use native.Mathlib.Numerals.{add-one}
 use native.Mathlib.Omega.{arith}
 use borrow.Author.Tests.{ne_eqb}
 use lib.Dec.{eqb}
-use lib.ListN.{length, get_or, set, length_set}
-use lib.Seq.{get_or-set_same, get_or_set_other}
+use lib.ListN.{length, get_or, set, length-set}
+use lib.Seq.{get_or-set_same, get_or-set_other}
 use Rattle.network.specs.declared.Instruction.{Instruction}
 use Rattle.network.specs.Code.{instruction_at}
 use Rattle.process.specs.declared.Channel.{Channel}
@@ -98,9 +98,9 @@ module _ {used : ℕ} {v : Arrays} {points full channel : List ℕ} where
         → Partly used v (p + 1) (set points p r.points) (set full p r.full) (set channel p r.channel)
     one_more {r} small more w =
         record {
-          pointings_long = length_set points p r.points ∙ t.pointings_long;
-          fulls_long = length_set full p r.full ∙ t.fulls_long;
-          channels_long = length_set channel p r.channel ∙ t.channels_long;
+          pointings_long = length-set points p r.points ∙ t.pointings_long;
+          fulls_long = length-set full p r.full ∙ t.fulls_long;
+          channels_long = length-set channel p r.channel ∙ t.channels_long;
           so = λ l shown sound e q h. at l (w l shown sound (omega arith)) q (t.so l shown sound e q) h (ℕ_discrete q p);
         }
       where
@@ -115,9 +115,9 @@ module _ {used : ℕ} {v : Arrays} {points full channel : List ℕ} where
         )
         at l e q before h (no d) =
             let b = before (omega arith) in (
-              get_or_set_other points p q r.points 0 d ∙ b.0,
-              get_or_set_other full p q r.full 0 d ∙ b.1,
-              get_or_set_other channel p q r.channel 0 d ∙ b.2,
+              get_or-set_other points p q r.points 0 d ∙ b.0,
+              get_or-set_other full p q r.full 0 d ∙ b.1,
+              get_or-set_other channel p q r.channel 0 d ∙ b.2,
             )
 
     pub all_held : used ≤ p → AllLooked used v points full channel
@@ -153,7 +153,7 @@ module _ (l : Lane) {used p : ℕ} {all : Bool} (e : some_wants_room l p (used -
   unfolding some_wants_room
   rooms_on h r t =
       let a : some_wants_room l (suc p) (used - (p + 1)) ≡ all = rw (left_more used p h, ← r, t) at e in
-      ap (λ (q : ℕ). some_wants_room l q (used - (p + 1))) (add_one p) ∙ a
+      ap (λ (q : ℕ). some_wants_room l q (used - (p + 1))) (add-one p) ∙ a
 
   -- none is left
   pub rooms_over : used ≤ p → false ≡ all

@@ -6,7 +6,7 @@ use mathlib.Core.Bool.{Bool, true, false, cond, not, ◌&&◌}
 use mathlib.Core.List.{List, []}
 use Prim.Native.Nat.{ℕ, ◌<◌}
 use native.Mathlib.Omega.{arith}
-use borrow.Author.Tests.{lt_ltb, ne_eqb}
+use borrow.Author.Tests.{lt-ltb, ne_eqb}
 use lib.Dec.{eqb}
 use lib.IntN.{ℤ}
 use Rattle.network.specs.declared.Instruction.{Instruction}
@@ -150,7 +150,7 @@ pub waits_are : (l : Lane) (p : ℕ) {c : ℕ} {w : Waiting} {r : Wait} → p < 
     → r ≡ wait_from w c (sender_of l.network c) (receiver_of l.network c) (channel_of l c).capacity
     → r ≡ wait_by l p
 unfolding pointing full_wait waits_at
-waits_are l p {c} {w} h e₁ e₂ e₃ = rw (e₃, lt_ltb p l.network.processes h, wait_is l p, ← e₁, ← e₂) (from l w c)
+waits_are l p {c} {w} h e₁ e₂ e₃ = rw (e₃, lt-ltb p l.network.processes h, wait_is l p, ← e₁, ← e₂) (from l w c)
 
 -- a process that does not stand at a send waits for no room
 unsent : (l : Lane) (t u : Bool) (c : ℕ) → room_in l (wait_as (cond t (cond u Empty Free) Free) c) ≡ 0

@@ -7,7 +7,7 @@ use lib.IntN.{ℤ, pos, ◌+ℤ◌, ◌-ℤ◌, ◌*ℤ◌}
 use lib.Signed.{lt_z, quot_z, rem_z}
 use mir.Syntax.{w32, w64}
 use mir.Val.{SFits, to_z, of_z}
-use mir.Facts.{to_z_of_z}
+use mir.Facts.{to_z-of_z}
 use Rattle.arithmetic.specs.Quotient.{Division}
 use Rattle.arithmetic.proofs.Operands.{wide, operand, number, product_fits}
 use Rattle.arithmetic.proofs.QuotientLaws.{quotient_fits, remainder_fits}
@@ -37,14 +37,14 @@ module _ (c : lts.Start reads.Pre reads.Post) where
   divides : (0 < of_z w32 y) × SFits w32 (quot_z (to_z w32 (of_z w32 x)) (to_z w32 (of_z w32 y)))
   divides =
       let e : of_z w32 y ≡ 0 → ⊥ = λ e. c.requires.0 (number c.ranges.y e) in
-      (omega (arith, e), rw (to_z_of_z c.ranges.x, to_z_of_z c.ranges.y) quotient_is)
+      (omega (arith, e), rw (to_z-of_z c.ranges.x, to_z-of_z c.ranges.y) quotient_is)
 
   -- the product, as the machine has it
   abbrev product : ℤ
   product = to_z w64 (of_z w64 (to_z w64 (of_z w64 (to_z w32 (of_z w32 (rem_z (to_z w32 (of_z w32 x)) (to_z w32 (of_z w32 y)))))) *ℤ to_z w64 (of_z w64 (to_z w32 (of_z w32 y)))))
 
   product_right : product ≡ rem_z x y *ℤ y
-  product_right = rw (to_z_of_z c.ranges.x, to_z_of_z c.ranges.y, to_z_of_z remainder_is, to_z_of_z (wide remainder_is), to_z_of_z (wide c.ranges.y)) (to_z_of_z product_is)
+  product_right = rw (to_z-of_z c.ranges.x, to_z-of_z c.ranges.y, to_z-of_z remainder_is, to_z-of_z (wide remainder_is), to_z-of_z (wide c.ranges.y)) (to_z-of_z product_is)
 
 div-quotient : tie.Need-nonzero-div-quotient
 div-quotient c = divides c
@@ -53,13 +53,13 @@ rem-remainder : tie.Need-nonzero-rem-remainder
 rem-remainder c = divides c
 
 cast-if1 : tie.Need-overflow-cast-if1
-cast-if1 c = rw (to_z_of_z c.ranges.x, to_z_of_z c.ranges.y) (operand (remainder_is c))
+cast-if1 c = rw (to_z-of_z c.ranges.x, to_z-of_z c.ranges.y) (operand (remainder_is c))
 
 cast-if1-2 : tie.Need-overflow-cast-if1-2
 cast-if1-2 c = operand c.ranges.y
 
 mul-if1 : tie.Need-overflow-mul-if1
-mul-if1 c = rw (to_z_of_z c.ranges.x, to_z_of_z c.ranges.y, to_z_of_z (remainder_is c), to_z_of_z (wide (remainder_is c)), to_z_of_z (wide c.ranges.y)) (product_is c)
+mul-if1 c = rw (to_z-of_z c.ranges.x, to_z-of_z c.ranges.y, to_z-of_z (remainder_is c), to_z-of_z (wide (remainder_is c)), to_z-of_z (wide c.ranges.y)) (product_is c)
 
 -- the product is below zero
 module _ (c : lts.Then1 reads.Pre reads.Post) where
@@ -76,26 +76,26 @@ module _ (c : lts.Then1 reads.Pre reads.Post) where
   lower_remainder = remainder_fits lower s.fits.y
 
 sub-below : tie.Need-overflow-sub-below
-sub-below c = rw (to_z_of_z c.before.ranges.x, to_z_of_z c.before.ranges.y, to_z_of_z (quotient_is c.before)) (lower_quotient c)
+sub-below c = rw (to_z-of_z c.before.ranges.x, to_z-of_z c.before.ranges.y, to_z-of_z (quotient_is c.before)) (lower_quotient c)
 
 add-rest : tie.Need-overflow-add-rest
-add-rest c = rw (to_z_of_z c.before.ranges.x, to_z_of_z c.before.ranges.y, to_z_of_z (remainder_is c.before)) (lower_remainder c)
+add-rest c = rw (to_z-of_z c.before.ranges.x, to_z-of_z c.before.ranges.y, to_z-of_z (remainder_is c.before)) (lower_remainder c)
 
 returns : tie.Need-returns
 returns c =
     rw (
-      to_z_of_z c.before.ranges.x,
-      to_z_of_z c.before.ranges.y,
-      to_z_of_z (quotient_is c.before),
-      to_z_of_z (remainder_is c.before),
-      to_z_of_z (lower_quotient c),
-      to_z_of_z (lower_remainder c),
+      to_z-of_z c.before.ranges.x,
+      to_z-of_z c.before.ranges.y,
+      to_z-of_z (quotient_is c.before),
+      to_z-of_z (remainder_is c.before),
+      to_z-of_z (lower_quotient c),
+      to_z-of_z (lower_remainder c),
     ) (lower c)
 
 returns-2 : tie.Need-returns-2
 returns-2 c =
     let s = c.before in
-    rw (to_z_of_z s.ranges.x, to_z_of_z s.ranges.y, to_z_of_z (quotient_is s), to_z_of_z (remainder_is s))
+    rw (to_z-of_z s.ranges.x, to_z-of_z s.ranges.y, to_z-of_z (quotient_is s), to_z-of_z (remainder_is s))
     (cut_down (x s) (y s) s.requires.0 (ap (λ u. lt_z u (pos 0)) (sym (product_right s)) ∙ c.if1.false))
 
 pub divide_spec : {M : Type 1} → statement M

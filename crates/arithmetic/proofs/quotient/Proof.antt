@@ -5,7 +5,7 @@ use mathlib.Core.Logic.{⊎_elim}
 use lib.IntN.{negsuc}
 use mir.Syntax.{w32}
 use mir.Val.{SFits, of_z}
-use mir.Facts.{to_z_of_z}
+use mir.Facts.{to_z-of_z}
 use Rattle.arithmetic.specs.Quotient.{Division}
 use Rattle.arithmetic.proofs.Operands.{number}
 use Rattle.arithmetic.proofs.QuotientLaws.{quotient_zero, quotient_by, quotient_least, quotient_fits}
@@ -28,15 +28,15 @@ returns-2 c =
 
 divide-requires : tie.Need-divide-requires
 divide-requires c κs =
-    rw (to_z_of_z c.before.before.ranges.x, to_z_of_z c.before.before.ranges.y) (λ e. c.before.if1.false (ap (of_z w32) e), fitting c)
+    rw (to_z-of_z c.before.before.ranges.x, to_z-of_z c.before.before.ranges.y) (λ e. c.before.if1.false (ap (of_z w32) e), fitting c)
 
 returns-3 : tie.Need-returns-3
 returns-3 c =
     let s = c.before.before.before.before in
     let d : Division s.args.x s.args.y c.before.divide.result.quotient c.before.divide.result.remainder =
-    rw (← to_z_of_z s.ranges.x, ← to_z_of_z s.ranges.y) c.before.divide.ensures in
+    rw (← to_z-of_z s.ranges.x, ← to_z-of_z s.ranges.y) c.before.divide.ensures in
     let h : SFits w32 c.before.divide.result.quotient = quotient_fits d s.ranges.x (fitting c.before.before) in
-    rw (to_z_of_z h, quotient_by d h)
+    rw (to_z-of_z h, quotient_by d h)
 
 pub quotient_spec : {M : Type 1} → statement M
 quotient_spec = tie.close (tie.spec returns returns-2 divide-requires returns-3)

@@ -8,8 +8,8 @@ use lib.IntN.{ℤ, pos, negsuc}
 use lib.Signed.{mag, shr_z}
 use mir.Syntax.{w64}
 use mir.Val.{SFits, to_z, of_z}
-use mir.Facts.{to_z_of_z}
-use borrow.Author.Tests.{lt_ltb, le-ltb}
+use mir.Facts.{to_z-of_z}
+use borrow.Author.Tests.{lt-ltb, le-ltb}
 use Rattle.arithmetic.specs.Wrap.{residue, centred, wrap}
 use Rattle.arithmetic.proofs.WrapLaws.{centred_low, centred_high, wrap_fits}
 use Rattle.arithmetic.proofs.Operands.{wide}
@@ -28,7 +28,7 @@ up n = omega arith
 
 shifted : (n : ℕ) → Dec (n % 4294967296 < 2147483648) → shr_z (to_z w64 (n % 4294967296 * 4294967296)) 4294967296 ≡ centred (n % 4294967296)
 shifted n (yes h) =
-    rw (lt_ltb (n % 4294967296 * 4294967296) 9223372036854775808 (omega arith), centred_low (n % 4294967296) h) (ap pos (omega arith))
+    rw (lt-ltb (n % 4294967296 * 4294967296) 9223372036854775808 (omega arith), centred_low (n % 4294967296) h) (ap pos (omega arith))
 shifted n (no h) =
     rw (le-ltb (n % 4294967296 * 4294967296) 9223372036854775808 (omega arith), centred_high (n % 4294967296) (omega arith) (omega arith)) (ap negsuc (omega arith))
 
@@ -38,10 +38,10 @@ shifts {z} h =
     ap (λ (n : ℕ). shr_z (to_z w64 n) 4294967296) (up (of_z w64 z)) ∙ shifted (of_z w64 z) (dec_lt _ _) ∙ ap centred (bits z h.sfits)
 
 cast-result : tie.Need-overflow-cast-result
-cast-result c = rw (shifts c.ranges.z, to_z_of_z (wide (wrap_fits c.args.z))) (wrap_fits c.args.z)
+cast-result c = rw (shifts c.ranges.z, to_z-of_z (wide (wrap_fits c.args.z))) (wrap_fits c.args.z)
 
 returns : tie.Need-returns
-returns c = rw (shifts c.ranges.z, to_z_of_z (wide (wrap_fits c.args.z)), to_z_of_z (wrap_fits c.args.z))
+returns c = rw (shifts c.ranges.z, to_z-of_z (wide (wrap_fits c.args.z)), to_z-of_z (wrap_fits c.args.z))
 
 pub wrap_spec : {M : Type 1} → statement M
 wrap_spec = tie.close (tie.spec cast-result returns)

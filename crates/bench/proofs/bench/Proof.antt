@@ -2,7 +2,7 @@
 -- Assumes nothing.
 use mathlib.Core.Path.{◌≡◌, sym, ◌∙◌}
 use borrow.Author.Rules.{rules}
-use borrow.Author.Tests.{lt_ltb, le-ltb}
+use borrow.Author.Tests.{lt-ltb, le-ltb}
 use Rattle.lane_file.specs.Read.{accepted, read_of}
 use Rattle.lane_file.proofs.RoundTrip.{written_read}
 use Rattle.bench.specs.Bench.{bench_of}
@@ -17,7 +17,7 @@ read_as c = sym c.before.before.before.read.ensures ∙ rw c.enum_told.given.1
 
 returns : tie.Need-returns
 unfolding bench_of
-returns c = rw (lt_ltb _ 65536 c.if1.true)
+returns c = rw (lt-ltb _ 65536 c.if1.true)
 
 read-requires : tie.Need-read-requires
 read-requires c κs = search rules

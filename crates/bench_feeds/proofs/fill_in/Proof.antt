@@ -5,7 +5,7 @@ use mathlib.Core.Logic.{⊎_elim}
 use Prim.Native.Nat.{◌-◌}
 use native.Mathlib.Omega.{arith}
 use borrow.Author.Rules.{rules}
-use mir.Facts.{to_z_of_z}
+use mir.Facts.{to_z-of_z}
 use mir.Syntax.{w32}
 use Rattle.lent_calls.specs.OneChannel.{FedIn}
 use Rattle.bench_rules.specs.Input.{value_at}
@@ -38,7 +38,7 @@ fed_in : (c : tie.After-feed-in invariant-loop decreases-loop)
     → let o = c.before.before.before.before.before.before.before.before.before in
     let a = o.before.before.args in
     FedIn a.c (value_at a.input.now o.loop.i) a.gone a.capacity.now a.oldest.now o.loop.held o.loop.peak a.closed.now o.loop.cells c.feed-in.result c.feed-in.new.1.1.1.1.1.0 c.feed-in.new.1.1.1.1.1.1.0 c.feed-in.new.1.1.1.1.1.1.1.1.0
-fed_in c = (rw (to_z_of_z {w = w32} (record { sfits = c.before.before.before.before.before.value_at_lem.type-inv }), c.before.before.before.before.before.value_at_lem.ensures) at c.feed-in.ensures)
+fed_in c = (rw (to_z-of_z {w = w32} (record { sfits = c.before.before.before.before.before.value_at_lem.type-inv }), c.before.before.before.before.before.value_at_lem.ensures) at c.feed-in.ensures)
 
 enum_told : tie.Need-enum-told invariant-loop decreases-loop
 enum_told c = search rules

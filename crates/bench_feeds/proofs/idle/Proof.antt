@@ -1,7 +1,7 @@
 -- `bench_feeds::idle` meets its contract, test by test.
 -- Assumes nothing.
 use borrow.Author.Rules.{rules}
-use borrow.Author.Tests.{lt_ltb, le-ltb, eq-eqb, ne_eqb}
+use borrow.Author.Tests.{lt-ltb, le-ltb, eq-eqb, ne_eqb}
 use mathlib.Core.Path.{sym, ◌∙◌}
 use Rattle.bench_feeds.specs.Idle.{idle_at}
 use Rattle.bench_feeds.proofs.idle.Statement.{statement}
@@ -45,7 +45,7 @@ channel-at-requires c κs = search rules
 
 returns-4 : tie.Need-returns-4
 unfolding idle_at
-returns-4 c = λ oldest peak. rw (c.before.before.before.before.before.before.before.before.if1.false, sym c.before.before.before.before.before.before.ended_at.ensures ∙ c.before.before.before.before.before.if2.false, eq-eqb _ _ c.before.before.if3.false, lt_ltb _ _ c.before.if4.true, c.channel_at_lem.ensures)
+returns-4 c = λ oldest peak. rw (c.before.before.before.before.before.before.before.before.if1.false, sym c.before.before.before.before.before.before.ended_at.ensures ∙ c.before.before.before.before.before.if2.false, eq-eqb _ _ c.before.before.if3.false, lt-ltb _ _ c.before.if4.true, c.channel_at_lem.ensures)
 
 returns-5 : tie.Need-returns-5
 unfolding idle_at

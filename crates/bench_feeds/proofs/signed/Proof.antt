@@ -5,9 +5,9 @@ use Prim.Native.Nat.{ℕ, zero, suc, ◌-◌, ◌<◌}
 use native.Mathlib.Nat.{zero-add}
 use native.Mathlib.Omega.{arith}
 use borrow.Author.Rules.{rules}
-use borrow.Author.Tests.{lt_ltb, le-ltb}
+use borrow.Author.Tests.{lt-ltb, le-ltb}
 use lib.IntN.{pos, negsuc, ◌-ℤ◌}
-use mir.Facts.{to_z_of_z, to_z_pos}
+use mir.Facts.{to_z-of_z, to_z_pos}
 use mir.Syntax.{w32}
 use mir.Val.{SFits}
 use Rattle.bench_feeds.proofs.signed.Statement.{statement}
@@ -38,10 +38,10 @@ sub-result-2 : tie.Need-overflow-sub-result-2
 sub-result-2 c = rw (to_z_pos w32 (small c), less) (fits c)
 
 returns : tie.Need-returns
-returns c = rw (to_z_pos w32 c.if1.true, lt_ltb _ _ c.if1.true)
+returns c = rw (to_z_pos w32 c.if1.true, lt-ltb _ _ c.if1.true)
 
 returns-2 : tie.Need-returns-2
-returns-2 c = rw (to_z_pos w32 (small c), less, to_z_of_z (fits c), le-ltb _ _ c.if1.false)
+returns-2 c = rw (to_z_pos w32 (small c), less, to_z-of_z (fits c), le-ltb _ _ c.if1.false)
 
 pub signed_spec : {M : Type 1} → statement M
 signed_spec =

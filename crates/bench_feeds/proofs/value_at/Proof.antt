@@ -6,7 +6,7 @@ use Prim.Native.Nat.{ℕ, ◌+◌, ◌*◌}
 use native.Mathlib.Omega.{arith}
 use borrow.Author.Rules.{rules}
 use lib.ListN.{get_or}
-use mir.Facts.{to_z_of_z}
+use mir.Facts.{to_z-of_z}
 use mir.Syntax.{w32}
 use Rattle.base.specs.Lists.{word_at}
 use Rattle.bench_rules.specs.Input.{signed32}
@@ -84,7 +84,7 @@ number s k p q r t =
 returns : tie.Need-returns
 returns c =
     let a = c.before.before.before.before.before.before.before.before.before.before.args in
-    rw (to_z_of_z {w = w32} (record { sfits = c.signed.type-inv }), c.signed.ensures)
+    rw (to_z-of_z {w = w32} (record { sfits = c.signed.type-inv }), c.signed.ensures)
     (number a.input.now (5 * a.i) c.before.before.before.before.before.before.before.wide.ensures.0 c.before.before.before.before.before.wide2.ensures.0 c.before.before.before.wide3.ensures.0 c.before.wide4.ensures.0)
 
 pub value_at_spec : {M : Type 1} → statement M

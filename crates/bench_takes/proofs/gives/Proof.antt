@@ -1,7 +1,7 @@
 -- `bench_takes::gives` meets its contract, test by test.
 -- Assumes nothing.
 use borrow.Author.Rules.{rules}
-use borrow.Author.Tests.{eq-eqb, ne_eqb, lt_ltb, le-ltb}
+use borrow.Author.Tests.{eq-eqb, ne_eqb, lt-ltb, le-ltb}
 use Rattle.bench_takes.proofs.gives.Statement.{statement}
 use Rattle.bench_takes.proofs.gives.Tie as tie
 
@@ -24,7 +24,7 @@ element-copy-out-if3 : tie.Need-element-copy-out-if3
 element-copy-out-if3 c = search rules
 
 returns-3 : tie.Need-returns-3
-returns-3 c = rw (eq-eqb _ 255 c.before.before.before.before.if1.false, c.before.before.if2.false, lt_ltb 0 _ c.if3.true)
+returns-3 c = rw (eq-eqb _ 255 c.before.before.before.before.if1.false, c.before.before.if2.false, lt-ltb 0 _ c.if3.true)
 
 element-copy-out-result : tie.Need-element-copy-out-result
 element-copy-out-result c = search rules

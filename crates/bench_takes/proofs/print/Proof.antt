@@ -4,7 +4,7 @@ use mathlib.Core.Path.{◌≡◌, refl}
 use mathlib.Core.List.{append-nil}
 use native.Mathlib.Nat.{add-zero}
 use borrow.Author.Rules.{rules}
-use mir.Facts.{to_z_of_z}
+use mir.Facts.{to_z-of_z}
 use mir.Syntax.{w32}
 use mir.Val.{to_z, of_z}
 use Rattle.listing.specs.Text.{line_text, out, end}
@@ -14,7 +14,7 @@ use Rattle.bench_takes.proofs.print.Tie as tie
 
 -- the message, as the code holds it
 same_value : (c : tie.After-write-out-arg) → to_z w32 (of_z w32 c.before.before.answer.given.0.0) ≡ c.before.before.answer.given.0.0
-same_value c = to_z_of_z {w = w32} {z = c.before.before.answer.given.0.0} (record { sfits = c.before.known-told.given.0.1 })
+same_value c = to_z-of_z {w = w32} {z = c.before.before.answer.given.0.0} (record { sfits = c.before.known-told.given.0.1 })
 
 enum-known-answer : tie.Need-enum-known-answer
 enum-known-answer c = search rules

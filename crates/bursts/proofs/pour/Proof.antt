@@ -10,7 +10,7 @@ use lib.IntN.{pos}
 use lib.ListN.{length, get_or}
 use mir.Syntax.{w32}
 use mir.Val.{SFits}
-use mir.Facts.{to_z_of_z}
+use mir.Facts.{to_z-of_z}
 use Rattle.process.specs.Execute.{full}
 use Rattle.bursts.specs.Pouring.{stream, pour_of}
 use Rattle.bursts.proofs.Pours.{Flows, flows_all, flows_full, flows_room, flows_gone, flows_put}
@@ -67,7 +67,7 @@ loop-again : tie.Need-loop-preserved invariant-loop decreases-loop
 loop-again c =
     let k = c.before.before.before.before in
     let f : SFits w32 (get_or (turn_of k).before.args.values.now (turn_of k).loop.k (pos 0)) = record { sfits = k.v.given } in
-    rw (c.put.ensures, c.before.slot.ensures.0, c.before.before.before.counted.ensures, to_z_of_z f)
+    rw (c.put.ensures, c.before.slot.ensures.0, c.before.before.before.counted.ensures, to_z-of_z f)
     (flows_put _ _ _ _ _ _ _ _ (turn_of k).loop.invariant k.before.before.before.loop-test.true (roomy k) (not-true _ c.before.before.if2.true))
 
 loop-less-2 : tie.Need-loop-smaller-2 invariant-loop decreases-loop

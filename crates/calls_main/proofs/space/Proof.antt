@@ -2,12 +2,12 @@
 -- Assumes nothing.
 use Prim.Native.Nat.{ℕ}
 use mathlib.Core.Path.{sym}
-use lib.ListN.{length_replicate}
+use lib.ListN.{length-replicate}
 use Rattle.calls_main.proofs.space.Statement.{statement}
 use Rattle.calls_main.proofs.space.Tie as tie
 
 returns : tie.Need-returns
-returns c = sym (length_replicate {0} {A = ℕ} 1048576 0)
+returns c = sym (length-replicate {0} {A = ℕ} 1048576 0)
 
 pub space_spec : {M : Type 1} → statement M
 space_spec = tie.close (tie.spec returns)

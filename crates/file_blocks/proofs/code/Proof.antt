@@ -4,7 +4,7 @@ use mathlib.Core.Path.{◌≡◌, sym, ap, ◌∙◌}
 use Prim.Native.Nat.{◌+◌, ◌*◌, ◌≤◌, ◌-◌}
 use native.Mathlib.Omega.{arith}
 use borrow.Author.Rules.{rules}
-use lib.ListN.{length, get_or, length-take, length_drop}
+use lib.ListN.{length, get_or, length-take, length-drop}
 use Rattle.base.proofs.Lists.{Filled, filled_none}
 use Rattle.lane_file.specs.Read.{code_place}
 use Rattle.file_blocks.proofs.Filling.{blank, length_blank, blank_at, length_part, filled_part, filled_rest, code_at, code_past}
@@ -83,7 +83,7 @@ loop-again c =
       rw (e₁, e₂)
           (filled_part _ 0 (blank 4064) (508 * (k - 1)) 508 l.code r.new.0
           (omega (arith, l.invariant.2.long, length_blank 4064))
-          (omega (arith, simp (length-take, length_drop) at (ap length r.ensures)))
+          (omega (arith, simp (length-take, length-drop) at (ap length r.ensures)))
           (λ m b. rw (r.ensures, e₃) (code_at s k m h b))
           l.invariant.2),
     )

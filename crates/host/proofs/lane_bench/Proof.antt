@@ -2,7 +2,7 @@
 -- Assumes nothing.
 use mathlib.Core.Path.{◌≡◌, sym, ap, ◌∙◌, subst}
 use lib.IntN.{pos, neg_ℤ}
-use mir.Facts.{to_z_of_z}
+use mir.Facts.{to_z-of_z}
 use mir.Syntax.{w32}
 use borrow.Author.Rules.{rules}
 use Rattle.bench.specs.declared.BenchAnswer.{BenchAnswer}
@@ -47,7 +47,7 @@ returns : tie.Need-returns
 returns c =
     let l = c.before.before in
     let b = l.before.before.before.before in (
-      to_z_of_z {w = w32} (record { sfits = c.length-number.type-inv })
+      to_z-of_z {w = w32} (record { sfits = c.length-number.type-inv })
           ∙ c.length-number.ensures
           ∙ ap number_told (sym (ap told l.length.given.1) ∙ ap (λ (r : Result). r.answer) b.bench.ensures),
       ap (λ (r : Result). r.listing) b.bench.ensures,
@@ -61,7 +61,7 @@ returns-2 c =
     let n = c.before in
     let l = n.before.before in
     let b = l.before.before.before.before in (
-      to_z_of_z {w = w32} (record { sfits = c.refusal-number.type-inv })
+      to_z-of_z {w = w32} (record { sfits = c.refusal-number.type-inv })
           ∙ c.refusal-number.ensures
           ∙ ap (λ k. neg_ℤ (pos k)) n.number.ensures
           ∙ ap number_told (sym (ap told l.refusal.given.1) ∙ ap (λ (r : Result). r.answer) b.bench.ensures),

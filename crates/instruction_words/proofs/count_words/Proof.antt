@@ -7,7 +7,7 @@ use Prim.Native.Nat.{ℕ, ◌+◌, ◌-◌, ◌*◌, ◌≤◌, ◌<◌}
 use native.Mathlib.Omega.{arith}
 use borrow.Author.Rules.{rules}
 use lib.ListN.{length, get_or, set}
-use lib.Seq.{get_or_set_other}
+use lib.Seq.{get_or-set_other}
 use Rattle.base.specs.Lists.{table}
 use Rattle.base.proofs.Lists.{Filled, table_at}
 use Rattle.instruction_words.specs.Words.{opcode_word}
@@ -20,9 +20,9 @@ use Rattle.instruction_words.proofs.count_words.Tie as tie
 receive_there : (before p : ℕ) (old : List ℕ) → old ≡ table 256 (opcode_word before p) → (x y z : ℕ)
     → get_or (set (set (set old 8 x) 9 y) 10 z) 11 0 ≡ opcode_word before p 11
 receive_there before p old e x y z =
-    get_or_set_other (set (set old 8 x) 9 y) 10 11 z 0 (λ q. omega arith)
-    ∙ get_or_set_other (set old 8 x) 9 11 y 0 (λ q. omega arith)
-    ∙ get_or_set_other old 8 11 x 0 (λ q. omega arith)
+    get_or-set_other (set (set old 8 x) 9 y) 10 11 z 0 (λ q. omega arith)
+    ∙ get_or-set_other (set old 8 x) 9 11 y 0 (λ q. omega arith)
+    ∙ get_or-set_other old 8 11 x 0 (λ q. omega arith)
     ∙ rw e (table_at (opcode_word before p) 256 11 0 (omega arith))
 
 -- the table `old` of `before` instructions, as the stores change it

@@ -2,7 +2,7 @@
 -- Assumes nothing.
 use mathlib.Core.Path.{sym, ◌∙◌}
 use borrow.Author.Rules.{rules}
-use mir.Facts.{to_z_of_z}
+use mir.Facts.{to_z-of_z}
 use Rattle.call_parts.proofs.TestLaws.{opened_says, feed_opened}
 use Rattle.lane_calls.proofs.feed.Statement.{statement}
 use Rattle.lane_calls.proofs.feed.Tie as tie
@@ -29,7 +29,7 @@ same_length : tie.Need-same-length
 same_length c = search rules
 
 returns-2 : tie.Need-returns-2
-returns-2 c = rw (feed_opened, sym c.before.before.before.before.before.opened.ensures ∙ c.before.before.before.enum_told.given.1) (rw (to_z_of_z c.before.before.before.before.before.before.ranges.v) at c.before.feed_there.ensures)
+returns-2 c = rw (feed_opened, sym c.before.before.before.before.before.opened.ensures ∙ c.before.before.before.enum_told.given.1) (rw (to_z-of_z c.before.before.before.before.before.before.ranges.v) at c.before.feed_there.ensures)
 
 pub feed_spec : {M : Type 1} → statement M
 feed_spec =

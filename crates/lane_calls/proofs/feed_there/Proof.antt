@@ -4,7 +4,7 @@ use borrow.Author.Rules.{rules}
 use mathlib.Core.Path.{sym}
 use native.Mathlib.Omega.{arith}
 use borrow.Author.Tests.{eq-eqb, ne_eqb}
-use mir.Facts.{to_z_of_z}
+use mir.Facts.{to_z-of_z}
 use Rattle.lent_calls.proofs.There.{feedable}
 use Rattle.call_parts.proofs.TestLaws.{below}
 use Rattle.lane_calls.proofs.feed_there.Statement.{statement}
@@ -44,7 +44,7 @@ returns-2 : tie.Need-returns-2
 returns-2 c =
     let s = c.before.before.before.before.before.before.before.before.before.before.before.before.before.before.before.before.before.before.before.before.before.before.before.before.before in
     rw (c.fed.ensures, c.before.join-channels.ensures, eq-eqb _ _ c.before.before.before.before.before.before.before.before.before.before.before.before.before.before.before.before.before.before.before.before.before.before.before.if1.false)
-    (rw (to_z_of_z s.ranges.v) at (c.before.before.before.before.before.before.before.before.feed-in.ensures.told s.args.lane (sym c.before.before.before.before.before.before.before.before.before.before.before.before.before.before.before.part-channels.ensures.0) (c.before.before.before.before.before.before.before.before.before.before.before.before.before.before.before.before.before.before.before.before.before.before.receiver-ended.ensures s.args.cells.now)))
+    (rw (to_z-of_z s.ranges.v) at (c.before.before.before.before.before.before.before.before.feed-in.ensures.told s.args.lane (sym c.before.before.before.before.before.before.before.before.before.before.before.before.before.before.before.part-channels.ensures.0) (c.before.before.before.before.before.before.before.before.before.before.before.before.before.before.before.before.before.before.before.before.before.before.receiver-ended.ensures s.args.cells.now)))
 
 pub feed_there_spec : {M : Type 1} → statement M
 feed_there_spec =

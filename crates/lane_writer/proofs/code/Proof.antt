@@ -4,7 +4,7 @@ use mathlib.Core.Path.{◌≡◌, refl, ap, ◌∙◌}
 use Prim.Native.Nat.{ℕ, ◌≤◌, ◌-◌}
 use native.Mathlib.Omega.{arith}
 use borrow.Author.Rules.{rules}
-use lib.ListN.{length, take, drop, length_set}
+use lib.ListN.{length, take, drop, length-set}
 use Rattle.lane_writer.specs.Put.{put}
 use Rattle.lane_writer.proofs.Stores.{put_none, copied_more}
 use Rattle.lane_writer.proofs.code.Statement.{statement}
@@ -41,7 +41,7 @@ loop-again : tie.Need-loop-preserved invariant-loop decreases-loop
 loop-again c =
     let l = c.before.before.loop in
     let a = c.before.before.before.args in
-    (search rules, simp length_set l.invariant.1, copied_more a.code.now a.buffer.now l.buffer a.at a.from l.i (omega arith) l.invariant.2)
+    (search rules, simp length-set l.invariant.1, copied_more a.code.now a.buffer.now l.buffer a.at a.from l.i (omega arith) l.invariant.2)
 
 same_length : tie.Need-same-length invariant-loop decreases-loop
 same_length c = c.before.loop.invariant.1

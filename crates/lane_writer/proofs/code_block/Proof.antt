@@ -5,7 +5,7 @@ use mathlib.Core.List.{◌++◌}
 use Prim.Native.Nat.{◌+◌, ◌-◌, ◌*◌}
 use native.Mathlib.Omega.{arith}
 use borrow.Author.Rules.{rules}
-use lib.ListN.{length, take, drop, length_append}
+use lib.ListN.{length, take, drop, length-append}
 use Rattle.base.specs.Lists.{two_bytes}
 use Rattle.lane_writer.proofs.Stores.{put_put}
 use Rattle.lane_writer.proofs.Blocks.{length_code, put_checked}
@@ -45,7 +45,7 @@ returns c =
     let v = take 508 (drop (508 * (a.k - 1)) a.bytes.now) in
     let e : length v ≡ 508 = length_code a.bytes.now a.k (omega arith) (omega arith) (omega arith) in
     put_checked (v ++ two_bytes a.k) a.buffer.now c.before.before.before.before.before.before.two.new.0 c.before.before.seal.new.0 (512 * a.k)
-    (simp length_append (omega arith)) (omega arith)
+    (simp length-append (omega arith)) (omega arith)
     (c.before.before.before.before.before.before.two.ensures ∙ rw c.before.before.before.before.before.before.before.before.before.before.code.ensures (put_put v (two_bytes a.k) a.buffer.now (512 * a.k) (512 * a.k + 508) (omega arith)))
     c.before.before.seal.ensures
 

@@ -6,7 +6,7 @@ use Prim.Native.Nat.{◌≤◌, ◌<◌}
 use native.Mathlib.Omega.{arith}
 use borrow.Author.Rules.{rules, elem_fits_field}
 use mir.Syntax.{w8}
-use borrow.Author.Tests.{lt_ltb, le-ltb, not-true, not-false}
+use borrow.Author.Tests.{lt-ltb, le-ltb, not-true, not-false}
 use lib.ListN.{length, length-map}
 use Rattle.network.specs.declared.Network.{Network}
 use Rattle.network.specs.Rules.{total, passes}
@@ -79,7 +79,7 @@ returns-2 c =
     let b = t.before.before.before.args.buffer.now in
     let n = net t.before in
     let short : length b < size_of n = omega (arith, told c.before) in
-    rw (holds t, lt_ltb (length b) (size_of n) short)
+    rw (holds t, lt-ltb (length b) (size_of n) short)
 
 cast-file : tie.Need-overflow-cast-file
 cast-file c = omega (arith, small c.before.before)

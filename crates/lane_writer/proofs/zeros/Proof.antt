@@ -4,7 +4,7 @@ use mathlib.Core.Path.{◌≡◌, refl, ap, ◌∙◌}
 use Prim.Native.Nat.{ℕ, ◌≤◌, ◌-◌}
 use native.Mathlib.Omega.{arith}
 use borrow.Author.Rules.{rules}
-use lib.ListN.{length, replicate, length_set}
+use lib.ListN.{length, replicate, length-set}
 use Rattle.lane_writer.specs.Put.{put}
 use Rattle.lane_writer.proofs.Stores.{put_none, zeros_more}
 use Rattle.lane_writer.proofs.zeros.Statement.{statement}
@@ -35,7 +35,7 @@ loop-again : tie.Need-loop-preserved invariant-loop decreases-loop
 loop-again c =
     let l = c.before.loop in
     let a = c.before.before.args in
-    (search rules, simp length_set l.invariant.1, zeros_more a.buffer.now l.buffer a.at l.i l.invariant.2)
+    (search rules, simp length-set l.invariant.1, zeros_more a.buffer.now l.buffer a.at l.i l.invariant.2)
 
 same_length : tie.Need-same-length invariant-loop decreases-loop
 same_length c = c.before.loop.invariant.1

@@ -3,7 +3,7 @@
 use borrow.Author.Rules.{rules}
 use Prim.Native.Nat.{◌≤◌}
 use native.Mathlib.Omega.{arith}
-use mir.Facts.{to_z_of_z}
+use mir.Facts.{to_z-of_z}
 use Rattle.lane_parts.proofs.Zip.{record_is}
 use Rattle.lent_calls.proofs.Cases.{feed_closed, feed_gone, feed_full, feed_put}
 use Rattle.lent_calls.proofs.feed_in.Statement.{statement}
@@ -57,7 +57,7 @@ same_length c = search rules
 returns-4 : tie.Need-returns-4
 returns-4 c =
     let s = c.before.before.before.before.before.before.before.before.before in
-    rw (to_z_of_z s.ranges.v)
+    rw (to_z-of_z s.ranges.v)
     (feed_put s.requires.thirty_two _ c.before.before.before.before.before.before.channel_at_lem.ensures s.args.v s.requires c.before.before.before.before.before.if1.false c.before.before.before.before.if2.false c.before.before.if3.false c.put.ensures c.before.slot.ensures.0)
 
 pub feed_in_spec : {M : Type 1} → statement M

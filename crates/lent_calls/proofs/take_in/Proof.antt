@@ -4,7 +4,7 @@ use borrow.Author.Rules.{rules}
 use native.Mathlib.Omega.{arith}
 use lib.IntN.{pos}
 use lib.ListN.{get_or}
-use mir.Facts.{to_z_of_z}
+use mir.Facts.{to_z-of_z}
 use mir.Syntax.{w32}
 use mir.Val.{SFits}
 use borrow.Author.Tests.{not-true, not-false}
@@ -52,7 +52,7 @@ returns-3 : tie.Need-returns-3
 returns-3 c =
     let s = c.before.before.before.before.before.before.before.before in
     let f : SFits w32 (get_or s.args.cells.now c.before.slot.result (pos 0)) = record { sfits = c.v.given } in
-    take_got s.requires.thirty_two _ c.before.before.before.before.before.channel_at_lem.ensures c.before.before.before.if1.false c.before.before.get.ensures (rw (to_z_of_z f, c.before.slot.ensures.0))
+    take_got s.requires.thirty_two _ c.before.before.before.before.before.channel_at_lem.ensures c.before.before.before.if1.false c.before.before.get.ensures (rw (to_z-of_z f, c.before.slot.ensures.0))
 
 pub take_in_spec : {M : Type 1} → statement M
 take_in_spec =

@@ -3,7 +3,7 @@
 use native.Mathlib.Omega.{arith}
 use lib.IntN.{pos}
 use lib.ListN.{get_or}
-use mir.Facts.{to_z_of_z}
+use mir.Facts.{to_z-of_z}
 use mir.Syntax.{w32}
 use mir.Val.{SFits}
 use borrow.Author.Rules.{rules}
@@ -63,7 +63,7 @@ returns-3 c =
     let h = c.before.before.before.before.before.before.before.channel_at_lem.ensures in
     let k = c.before.before.before.before.get.ensures in
     let f : SFits w32 (get_or s.args.cells.now c.before.before.slot.result (pos 0)) = record { sfits = c.before.assign-arg2.given } in
-    ((λ l p u e at. receive_got at _ c.before.before.before.before.before.before.before.before.before.before.channel-of.ensures.0 h s.requires.0 c.before.before.before.before.before.if1.false s.requires.1 (rw (e, to_z_of_z f, c.before.before.slot.ensures.0) at c.assign.ensures) k (put_got t _ h k)), keeps_got t _ _ _)
+    ((λ l p u e at. receive_got at _ c.before.before.before.before.before.before.before.before.before.before.channel-of.ensures.0 h s.requires.0 c.before.before.before.before.before.if1.false s.requires.1 (rw (e, to_z-of_z f, c.before.before.slot.ensures.0) at c.assign.ensures) k (put_got t _ h k)), keeps_got t _ _ _)
 
 pub receive_spec : {M : Type 1} → statement M
 receive_spec =

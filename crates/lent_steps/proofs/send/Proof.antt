@@ -3,7 +3,7 @@
 use mathlib.Core.Path.{sym, ◌∙◌}
 use Prim.Native.Nat.{◌≤◌}
 use native.Mathlib.Omega.{arith}
-use mir.Facts.{to_z_of_z}
+use mir.Facts.{to_z-of_z}
 use mir.Syntax.{w32}
 use mir.Val.{SFits}
 use borrow.Author.Rules.{rules}
@@ -71,7 +71,7 @@ returns-4 c =
     let h = c.before.before.before.before.before.before.before.channel_at_lem.ensures in
     let k = c.put.ensures in
     let f : SFits w32 c.before.register.result = record { sfits = c.before.register.type-inv } in
-    ((λ l p u e at. send_put at _ c.before.before.before.before.before.before.before.before.before.before.channel-of.ensures.0 h s.requires.0 c.before.before.before.before.before.before.if1.false (sym c.before.before.before.before.before.if2.false ∙ u) c.before.before.before.if3.false s.requires.1 k (put_sent t _ h k) (rw (to_z_of_z f, c.before.register.ensures, c.before.before.slot.ensures.0, e))), keeps_held t _ _ _)
+    ((λ l p u e at. send_put at _ c.before.before.before.before.before.before.before.before.before.before.channel-of.ensures.0 h s.requires.0 c.before.before.before.before.before.before.if1.false (sym c.before.before.before.before.before.if2.false ∙ u) c.before.before.before.if3.false s.requires.1 k (put_sent t _ h k) (rw (to_z-of_z f, c.before.register.ensures, c.before.before.slot.ensures.0, e))), keeps_held t _ _ _)
 
 pub send_spec : {M : Type 1} → statement M
 send_spec =

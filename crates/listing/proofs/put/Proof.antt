@@ -5,7 +5,7 @@ use mathlib.Core.List.{List}
 use Prim.Native.Nat.{ℕ, ◌≤◌, ◌-◌}
 use native.Mathlib.Omega.{arith}
 use borrow.Author.Rules.{rules}
-use lib.ListN.{length, take, length_set}
+use lib.ListN.{length, take, length-set}
 use lib.Seq.{take-length}
 use Rattle.listing.specs.Written.{written}
 use Rattle.listing.proofs.Laws.{written_none, written_more}
@@ -40,7 +40,7 @@ loop-again : tie.Need-loop-preserved invariant-loop decreases-loop
 loop-again c =
     let l = c.before.before.loop in
     let a = c.before.before.before.args in
-    (search rules, simp length_set l.invariant.1, written_more a.at l.i a.text.now a.listing.now l.listing (omega arith) (omega arith) l.invariant.2)
+    (search rules, simp length-set l.invariant.1, written_more a.at l.i a.text.now a.listing.now l.listing (omega arith) (omega arith) l.invariant.2)
 
 add-result : tie.Need-overflow-add-result invariant-loop decreases-loop
 add-result c = search rules

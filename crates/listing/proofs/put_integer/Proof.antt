@@ -12,7 +12,7 @@ use lib.ListN.{length}
 use lib.Signed.{mag, lt_z, non_neg}
 use mir.Syntax.{w32}
 use mir.Val.{to_z, of_z}
-use mir.Facts.{to_z_of_z, Fits-nat_abs}
+use mir.Facts.{to_z-of_z, Fits-nat_abs}
 use Rattle.listing.specs.Number.{number}
 use Rattle.listing.specs.Text.{integer}
 use Rattle.listing.proofs.Laws.{part}
@@ -22,7 +22,7 @@ use Rattle.listing.proofs.put_integer.Tie as tie
 
 -- the number as the code reads it
 read : (s : tie.Start) → to_z w32 (of_z w32 s.args.v) ≡ s.args.v
-read s = to_z_of_z s.ranges.v
+read s = to_z-of_z s.ranges.v
 
 -- ---- below zero
 minus : (c : tie.Then1) → lt_z c.before.before.args.v (pos 0) ≡ true
@@ -36,7 +36,7 @@ less_one : (c : tie.Then1) → negsuc 0 -ℤ to_z w32 (of_z w32 c.before.before.
 less_one c = rw (read c.before.before) (minus_one c.before.before.args.v (minus c))
 
 below : (c : tie.Then1) → to_z w32 (of_z w32 (negsuc 0 -ℤ to_z w32 (of_z w32 c.before.before.args.v))) ≡ pos (mag c.before.before.args.v)
-below c = rw (less_one c) (to_z_of_z {w = w32} (record { sfits = c.before.before.ranges.v.sfits }))
+below c = rw (less_one c) (to_z-of_z {w = w32} (record { sfits = c.before.before.ranges.v.sfits }))
 
 -- the parts have room
 fits : (c : tie.Then1) → c.before.before.args.at + length ((45 ∷ []) ++ number (mag c.before.before.args.v + 1)) ≤ length c.before.before.args.listing.now

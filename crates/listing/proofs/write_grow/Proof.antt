@@ -4,7 +4,7 @@ use mathlib.Core.List.{◌++◌}
 use Prim.Native.Nat.{◌+◌, ◌≤◌}
 use native.Mathlib.Omega.{arith}
 use borrow.Author.Rules.{rules}
-use lib.ListN.{length, length_append}
+use lib.ListN.{length, length-append}
 use Rattle.listing.specs.Number.{number}
 use Rattle.listing.specs.Text.{grow_word, space, newline}
 use Rattle.listing.proofs.Laws.{part}
@@ -20,25 +20,25 @@ slice-aggregate-put : tie.Need-slice-aggregate-put
 slice-aggregate-put c = search rules
 
 put-requires : tie.Need-put-requires
-put-requires c κs = omega (arith, simp length_append at (fits c.before.before.before))
+put-requires c κs = omega (arith, simp length-append at (fits c.before.before.before))
 
 put-decimal-requires : tie.Need-put-decimal-requires
-put-decimal-requires c κs = omega (arith, simp length_append at (fits c.before.before.before.before.before.before.before))
+put-decimal-requires c κs = omega (arith, simp length-append at (fits c.before.before.before.before.before.before.before))
 
 slice-aggregate-put-2 : tie.Need-slice-aggregate-put-2
 slice-aggregate-put-2 c = search rules
 
 put-requires-2 : tie.Need-put-requires-2
-put-requires-2 c κs = omega (arith, simp length_append at (fits c.before.before.before.before.before.before.before.before.before.before.before.before))
+put-requires-2 c κs = omega (arith, simp length-append at (fits c.before.before.before.before.before.before.before.before.before.before.before.before))
 
 put-decimal-requires-2 : tie.Need-put-decimal-requires-2
-put-decimal-requires-2 c κs = omega (arith, simp length_append at (fits c.before.before.before.before.before.before.before.before.before.before.before.before.before.before.before.before))
+put-decimal-requires-2 c κs = omega (arith, simp length-append at (fits c.before.before.before.before.before.before.before.before.before.before.before.before.before.before.before.before))
 
 slice-aggregate-put-3 : tie.Need-slice-aggregate-put-3
 slice-aggregate-put-3 c = search rules
 
 put-requires-3 : tie.Need-put-requires-3
-put-requires-3 c κs = omega (arith, simp length_append at (fits c.before.before.before.before.before.before.before.before.before.before.before.before.before.before.before.before.before.before.before.before.before))
+put-requires-3 c κs = omega (arith, simp length-append at (fits c.before.before.before.before.before.before.before.before.before.before.before.before.before.before.before.before.before.before.before.before.before))
 
 same_length : tie.Need-same-length
 same_length c = search rules
@@ -52,15 +52,15 @@ returns c =
     let w2 = w3.before.before.before.before.before in
     let w1 = w2.before.before.before.before in
     let s = w1.before.before.before.before in
-    let h = simp length_append at (fits s) in
+    let h = simp length-append at (fits s) in
     let at = s.args.at in
     let b = s.args.listing.now in
     let t2 = grow_word ++ number s.args.c in
     let t3 = t2 ++ space in
     let t4 = t3 ++ number s.args.capacity in
-    let u2 = part at b grow_word (number s.args.c) (simp length_append (omega arith)) w1.put.ensures w2.put-decimal.ensures in
-    let u3 = part at b t2 space (simp length_append (omega arith)) u2 w3.put2.ensures in
-    let u4 = part at b t3 (number s.args.capacity) (simp length_append (omega arith)) u3 w4.put-decimal2.ensures in
+    let u2 = part at b grow_word (number s.args.c) (simp length-append (omega arith)) w1.put.ensures w2.put-decimal.ensures in
+    let u3 = part at b t2 space (simp length-append (omega arith)) u2 w3.put2.ensures in
+    let u4 = part at b t3 (number s.args.capacity) (simp length-append (omega arith)) u3 w4.put-decimal2.ensures in
     rw (grow_parts s.args.c s.args.capacity s.requires.0 s.requires.1) (part at b t4 newline (fits s) u4 w5.put3.ensures)
 
 pub write_grow_spec : {M : Type 1} → statement M

@@ -1,7 +1,7 @@
 -- `network::at_end` meets its contract: each return rewrites by the test that led there.
 -- Assumes nothing.
 use borrow.Author.Rules.{rules}
-use borrow.Author.Tests.{lt_ltb, le-ltb}
+use borrow.Author.Tests.{lt-ltb, le-ltb}
 use Rattle.network.proofs.at_end.Statement.{statement}
 use Rattle.network.proofs.at_end.Tie as tie
 
@@ -12,7 +12,7 @@ wide-requires : tie.Need-wide-requires
 wide-requires c κs = search rules
 
 returns : tie.Need-returns
-returns c = rw (lt_ltb _ _ c.before.before.if1.true, c.wide.ensures)
+returns c = rw (lt-ltb _ _ c.before.before.if1.true, c.wide.ensures)
 
 returns-2 : tie.Need-returns-2
 returns-2 c = rw (le-ltb _ _ c.if1.false)

@@ -1,11 +1,11 @@
 -- `network::end_right` meets its contract: each return rewrites by the test that led there.
 -- Assumes nothing.
-use borrow.Author.Tests.{lt_ltb, le-ltb}
+use borrow.Author.Tests.{lt-ltb, le-ltb}
 use Rattle.network.proofs.end_right.Statement.{statement}
 use Rattle.network.proofs.end_right.Tie as tie
 
 returns : tie.Need-returns
-returns c = rw (lt_ltb _ _ c.if1.true)
+returns c = rw (lt-ltb _ _ c.if1.true)
 
 returns-2 : tie.Need-returns-2
 returns-2 c = rw (le-ltb _ _ c.if1.false)

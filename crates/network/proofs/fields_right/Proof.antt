@@ -4,7 +4,7 @@ use borrow.Author.Rules.{rules}
 use native.Mathlib.Omega.{arith}
 use mathlib.Core.Path.{◌≡◌}
 use Prim.Native.Nat.{ℕ, zero, suc, ◌≤◌, zero-le}
-use lib.ListN.{get_or_eq_default}
+use lib.ListN.{get_or-eq_default}
 use Rattle.network.specs.Code.{fields_right}
 use Rattle.network.proofs.fields_right.Statement.{statement}
 use Rattle.network.proofs.fields_right.Tie as tie
@@ -130,7 +130,7 @@ past (suc k) n r = omega (arith, past k n r.0, r.1)
 
 returns-15 : tie.Need-returns-15
 unfolding fields_right
-returns-15 c = let h : 14 ≤ c.before.args.i.op = past 14 _ c.match.rest in rw (get_or_eq_default)
+returns-15 c = let h : 14 ≤ c.before.args.i.op = past 14 _ c.match.rest in rw (get_or-eq_default)
 
 pub fields_right_spec : {M : Type 1} → statement M
 fields_right_spec =

@@ -1,6 +1,6 @@
 -- `register_steps::multiply` meets its contract.
 -- Assumes nothing.
-use mir.Facts.{to_z_of_z}
+use mir.Facts.{to_z-of_z}
 use mir.Syntax.{w32}
 use mir.Val.{SFits}
 use mathlib.Core.Path.{refl}
@@ -28,7 +28,7 @@ returns c =
     let y = c.before.before.before.register2 in
     let z = c.before.product in
     let f : SFits w32 z.result = record { sfits = z.type-inv } in
-    (refl, rw (c.assign.ensures, to_z_of_z f, z.ensures, operands product_of (record { sfits = x.type-inv }) (record { sfits = y.type-inv }) x.ensures y.ensures))
+    (refl, rw (c.assign.ensures, to_z-of_z f, z.ensures, operands product_of (record { sfits = x.type-inv }) (record { sfits = y.type-inv }) x.ensures y.ensures))
 
 pub multiply_spec : {M : Type 1} → statement M
 multiply_spec =

@@ -1,6 +1,6 @@
 -- `register_steps::put_divided` meets its contract.
 -- Assumes nothing.
-use mir.Facts.{to_z_of_z}
+use mir.Facts.{to_z-of_z}
 use mir.Syntax.{w32}
 use mir.Val.{SFits}
 use borrow.Author.Rules.{rules}
@@ -20,7 +20,7 @@ returns : tie.Need-returns
 returns c =
     let d = c.before.before.before.d.given in
     let f : SFits w32 d.0.0 = record { sfits = c.before.before.known-told.given.0.1 } in
-    (rw d.1, rw (c.assign.ensures, d.1, to_z_of_z f))
+    (rw d.1, rw (c.assign.ensures, d.1, to_z-of_z f))
 
 returns-2 : tie.Need-returns-2
 returns-2 c = search rules

@@ -1,6 +1,6 @@
 -- `register_steps::set` meets its contract.
 -- Assumes nothing.
-use mir.Facts.{to_z_of_z}
+use mir.Facts.{to_z-of_z}
 use mir.Syntax.{w32}
 use mir.Val.{SFits}
 use mathlib.Core.Path.{refl}
@@ -18,7 +18,7 @@ returns : tie.Need-returns
 returns c =
     let x = c.before.signed16 in
     let f : SFits w32 x.result = record { sfits = x.type-inv } in
-    (refl, rw (c.assign.ensures, to_z_of_z f, x.ensures))
+    (refl, rw (c.assign.ensures, to_z-of_z f, x.ensures))
 
 pub set_spec : {M : Type 1} → statement M
 set_spec = tie.close (tie.spec signed16-requires assign-requires returns)

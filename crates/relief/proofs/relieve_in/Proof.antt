@@ -5,7 +5,7 @@ use mathlib.Core.Bool.{true}
 use Prim.Native.Nat.{◌≤◌, ◌<◌}
 use native.Mathlib.Omega.{arith}
 use borrow.Author.Rules.{rules}
-use borrow.Author.Tests.{lt_ltb, le-ltb, eq-eqb, ne_eqb}
+use borrow.Author.Tests.{lt-ltb, le-ltb, eq-eqb, ne_eqb}
 use lib.ListN.{length, take, length-map}
 use lib.Seq.{length-take-le}
 use Rattle.network.proofs.Passed.{passed}
@@ -83,7 +83,7 @@ returns-3 c =
     let k = c.before in
     record {
       thirty_two = (start_of_lem k.before).requires.long.thirty_two;
-      leaves = λ l shown sound e. rw (← shown.channel, sound, ring_found k l shown sound e, ring_length_lem k, lt_ltb _ _ c.if3.true);
+      leaves = λ l shown sound e. rw (← shown.channel, sound, ring_found k l shown sound e, ring_length_lem k, lt-ltb _ _ c.if3.true);
     }
 
 write-requires : tie.Need-write-requires

@@ -5,7 +5,7 @@ use mathlib.Core.List.{List, ◌++◌}
 use Prim.Native.Nat.{ℕ, ◌-◌, ◌≤◌, ◌<◌}
 use native.Mathlib.Omega.{arith}
 use borrow.Author.Rules.{rules}
-use lib.ListN.{length, get_or, set, take, drop, length_set}
+use lib.ListN.{length, get_or, set, take, drop, length-set}
 use Rattle.relief.proofs.Front.{front_more}
 use Rattle.relief.proofs.write.Statement.{statement}
 use Rattle.relief.proofs.write.Tie as tie
@@ -38,7 +38,7 @@ loop-again c =
     let b = a.buffer.now in
     let long : l.i < length b = omega arith in (
       omega arith,
-      length_set l.buffer l.i _ ∙ l.invariant.1,
+      length-set l.buffer l.i _ ∙ l.invariant.1,
       ap (λ (x : List ℕ). set x l.i (get_or a.t2 l.i 0)) l.invariant.2 ∙ front_more a.t2 b l.i (let g : length a.t2 ≡ 16 = c.before.before.well-formed.1.0.1.0.1 in omega arith) long,
     )
 

@@ -8,7 +8,7 @@ use Prim.Native.Nat.{ℕ, ◌+◌, ◌-◌, ◌<◌}
 use native.Mathlib.Omega.{arith}
 use borrow.Author.Rules.{rules}
 use borrow.Author.Tests.{ne_eqb, not-true, not-false}
-use lib.ListN.{length, get_or, length_set}
+use lib.ListN.{length, get_or, length-set}
 use Rattle.base.proofs.Lists.{table_at}
 use Rattle.rings.specs.Rings.{ring_length, lesser}
 use Rattle.rings.specs.Left.{left_of}
@@ -215,7 +215,7 @@ search-again-2 c =
     let r = trail_below _ _ _ _ (entry t).pre.0 _ _ _ _ _ _ l.2 _ (leads k) b.before.if2.true in (
       l.0,
       passed_more _ _ _ _ _ _ t.before.search.inv.1 t.search-test.taken _ _
-          (length_set (at_loop k).loop.ring (at_loop k).loop.n (at_loop k).loop.at ∙ l.2.size)
+          (length-set (at_loop k).loop.ring (at_loop k).loop.n (at_loop k).loop.at ∙ l.2.size)
           (r 256 ∙ sym b.below.ensures ∙ c.before.before.if3.false)
           (c.either.ensures ∙ ap₂ ◌||◌ l.1 (c.before.below2.ensures ∙ sym (r 257))),
     )

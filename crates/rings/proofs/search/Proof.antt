@@ -3,7 +3,7 @@
 use mathlib.Core.Path.{sym, ◌∙◌}
 use native.Mathlib.Omega.{arith}
 use borrow.Author.Rules.{rules}
-use borrow.Author.Tests.{eqb_true}
+use borrow.Author.Tests.{eqb-true}
 use Rattle.base.specs.Tests.{is_zero}
 use Rattle.base.proofs.Tests.{each_true}
 use Rattle.base.proofs.Conjunction.{good_is}
@@ -19,7 +19,7 @@ returns : tie.Need-returns
 returns c =
     let s = c.before.before in
     let zero_at = each_true (is_zero s.args.full.now) 0 16 (good_is _ (sym c.before.none_full.ensures ∙ c.if1.true)) in (
-      sym (search_idle _ _ _ _ (points_stay _ _ (omega (arith, s.requires))) (λ q h. eqb_true _ 0 (zero_at q (omega arith) (omega (arith, s.requires))))),
+      sym (search_idle _ _ _ _ (points_stay _ _ (omega (arith, s.requires))) (λ q h. eqb-true _ 0 (zero_at q (omega arith) (omega (arith, s.requires))))),
       omega arith,
     )
 

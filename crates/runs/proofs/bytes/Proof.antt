@@ -3,7 +3,7 @@
 use mathlib.Core.Path.{◌≡◌, refl}
 use mathlib.Core.Bool.{true}
 use borrow.Author.Rules.{rules}
-use borrow.Author.Tests.{eqb_true, not-false}
+use borrow.Author.Tests.{eqb-true, not-false}
 use lib.ListN.{length, length-map}
 use Rattle.lane.specs.State.{world}
 use Rattle.lane.specs.Sound.{sound_of}
@@ -37,7 +37,7 @@ sound : (c : tie.Start) → sound_of c.args.lane ≡ true
 sound c = not-false _ c.requires.1
 
 long : (c : tie.Start) → length c.args.cells.now ≡ 8192
-long c = eqb_true _ _ (not-false _ c.requires.0)
+long c = eqb-true _ _ (not-false _ c.requires.0)
 
 part-processes-requires : tie.Need-part-processes-requires
 part-processes-requires c κs = search rules

@@ -1,7 +1,7 @@
 -- `sound_parts::ended_if` meets its contract.
 -- Assumes nothing.
 use borrow.Author.Rules.{rules}
-use borrow.Author.Tests.{lt_ltb, le-ltb}
+use borrow.Author.Tests.{lt-ltb, le-ltb}
 use Rattle.sound_parts.proofs.ended_if.Statement.{statement}
 use Rattle.sound_parts.proofs.ended_if.Tie as tie
 
@@ -9,7 +9,7 @@ is-ended-requires : tie.Need-is-ended-requires
 is-ended-requires c κs = search rules
 
 returns : tie.Need-returns
-returns c = rw (c.is-ended.ensures, lt_ltb _ _ c.before.if1.true)
+returns c = rw (c.is-ended.ensures, lt-ltb _ _ c.before.if1.true)
 
 returns-2 : tie.Need-returns-2
 returns-2 c = rw (le-ltb _ _ c.if1.false)

@@ -8,9 +8,9 @@ use Prim.Native.Nat.{ℕ, ◌-◌, ◌≤◌, ◌<◌}
 use native.Mathlib.Decide.{dec_lt}
 use native.Mathlib.Omega.{arith}
 use borrow.Author.Rules.{rules}
-use borrow.Author.Tests.{lt_ltb, le-ltb}
+use borrow.Author.Tests.{lt-ltb, le-ltb}
 use lib.Dec.{ltb, eqb}
-use lib.ListN.{length, get_or, length_replicate, get_or_replicate}
+use lib.ListN.{length, get_or, length-replicate, get_or-replicate}
 use Rattle.base.specs.Lists.{table}
 use Rattle.base.specs.Tests.{in_turn, first_bad, is_good}
 use Rattle.base.proofs.Lists.{Filled, filled_none, filled_more, table_is}
@@ -70,7 +70,7 @@ loop-less c = search rules
 
 -- an array of 256 has 256 elements
 long : (c : tie.Start invariant-loop decreases-loop) → length c.args.marks.now ≡ 256
-long c = rw c.requires.1 (length_replicate {A = ℕ} 256 0)
+long c = rw c.requires.1 (length-replicate {A = ℕ} 256 0)
 
 loop-again : tie.Need-loop-preserved invariant-loop decreases-loop
 loop-again c =
@@ -78,7 +78,7 @@ loop-again c =
     let l = t.loop in
     let a = t.before.args in
     let f = right a.count.now a.t2 in
-    let e : ltb l.p a.used ≡ true = lt_ltb l.p a.used (omega arith) in
+    let e : ltb l.p a.used ≡ true = lt-ltb l.p a.used (omega arith) in
     let m : c.mark.result ≡ mark_of a.t2 a.used l.p = rw e c.mark.ensures in (
       search rules,
       one_on f 0 l.p l.p l.wrong c.before.unless.result (omega arith) l.invariant.1 (rw c.before.unless.ensures (unless_zero_lem (f l.p))),
@@ -91,7 +91,7 @@ mark_at : (c : tie.After-loop invariant-loop decreases-loop) (k : ℕ) → k < 2
 mark_at c k h (yes m) = c.before.loop.invariant.2.done k (omega arith)
 mark_at c k h (no m) =
     let s = c.before.before in
-    c.before.loop.invariant.2.kept k (omega arith) ∙ rw (s.requires.1, le-ltb k s.args.used (omega arith)) (get_or_replicate {A = ℕ} 256 k 0 0 h)
+    c.before.loop.invariant.2.kept k (omega arith) ∙ rw (s.requires.1, le-ltb k s.args.used (omega arith)) (get_or-replicate {A = ℕ} 256 k 0 0 h)
 
 marked : (c : tie.After-loop invariant-loop decreases-loop) → c.before.loop.marks ≡ table 256 (mark_of c.before.before.args.t2 c.before.before.args.used)
 marked c =

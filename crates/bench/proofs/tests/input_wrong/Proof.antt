@@ -2,7 +2,7 @@
 -- Assumes nothing.
 use mathlib.Core.Path.{sym, ◌∙◌}
 use borrow.Author.Rules.{rules}
-use borrow.Author.Tests.{eq-eqb, ne_eqb, lt_ltb, le-ltb}
+use borrow.Author.Tests.{eq-eqb, ne_eqb, lt-ltb, le-ltb}
 use Rattle.bench.specs.Bench.{input_wrong}
 use Rattle.bench.proofs.tests.input_wrong.Statement.{statement}
 use Rattle.bench.proofs.tests.input_wrong.Tie as tie
@@ -13,11 +13,11 @@ returns c = rw (ne_eqb _ 0 c.if1.true)
 
 returns-2 : tie.Need-returns-2
 unfolding input_wrong
-returns-2 c = rw (eq-eqb _ 0 c.before.if1.false, lt_ltb 20480 _ c.if2.true)
+returns-2 c = rw (eq-eqb _ 0 c.before.if1.false, lt-ltb 20480 _ c.if2.true)
 
 returns-3 : tie.Need-returns-3
 unfolding input_wrong
-returns-3 c = rw (eq-eqb _ 0 c.before.before.if1.false, le-ltb 20480 _ c.before.if2.false, lt_ltb 3000 _ c.if3.true)
+returns-3 c = rw (eq-eqb _ 0 c.before.before.if1.false, le-ltb 20480 _ c.before.if2.false, lt-ltb 3000 _ c.if3.true)
 
 not-from-outside-requires : tie.Need-not-from-outside-requires
 not-from-outside-requires c κs = search rules

@@ -2,9 +2,9 @@
 -- Assumes nothing.
 use mathlib.Core.Path.{◌≡◌, sym, ◌∙◌}
 use Prim.Native.Nat.{◌-◌}
-use native.Mathlib.Nat.{sub_zero}
+use native.Mathlib.Nat.{sub-zero}
 use native.Mathlib.Omega.{arith}
-use borrow.Author.Tests.{lt_ltb, le-ltb, eq-eqb, ne_eqb}
+use borrow.Author.Tests.{lt-ltb, le-ltb, eq-eqb, ne_eqb}
 use Rattle.base.specs.Tests.{need, first_bad}
 use Rattle.base.proofs.Tests.{on, stop, over}
 use Rattle.network.proofs.Passed.{passed}
@@ -20,7 +20,7 @@ abbrev decreases-loop : tie.decreases-loop
 decreases-loop input net most i₀ i = records input - i
 
 loop-holds : tie.Need-loop-init invariant-loop decreases-loop
-loop-holds c = rw sub_zero
+loop-holds c = rw sub-zero
 
 channel-at-requires : tie.Need-channel-at-requires invariant-loop decreases-loop
 channel-at-requires c κs = c.loop-test.true
@@ -41,7 +41,7 @@ returns-2 c =
     let l = e.before.before.before.loop in
     let a = e.before.before.before.before.before.args in
     sym (stop (λ j. need (from_outside a.t1 a.input.now j) j) l.i (records a.input.now) l.i e.before.before.loop-test.true
-    (rw (← e.before.channel_at_lem.ensures, lt_ltb _ _ e.if1.false, ne_eqb _ 255 c.if2.true))) ∙ l.invariant
+    (rw (← e.before.channel_at_lem.ensures, lt-ltb _ _ e.if1.false, ne_eqb _ 255 c.if2.true))) ∙ l.invariant
 
 add-i : tie.Need-overflow-add-i invariant-loop decreases-loop
 add-i c = omega (arith, c.before.before.before.before.loop-test.true)
@@ -55,7 +55,7 @@ loop-again c =
     let l = e.before.before.before.loop in
     let a = e.before.before.before.before.before.args in
     on (λ j. need (from_outside a.t1 a.input.now j) j) l.i (records a.input.now) e.before.before.loop-test.true
-    (rw (← e.before.channel_at_lem.ensures, lt_ltb _ _ e.if1.false, eq-eqb _ 255 c.if2.false)) ∙ l.invariant
+    (rw (← e.before.channel_at_lem.ensures, lt-ltb _ _ e.if1.false, eq-eqb _ 255 c.if2.false)) ∙ l.invariant
 
 returns-3 : tie.Need-returns-3 invariant-loop decreases-loop
 returns-3 c =

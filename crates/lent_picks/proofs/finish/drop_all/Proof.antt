@@ -2,7 +2,7 @@
 -- Assumes nothing.
 use lib.Dec.{eqb}
 use borrow.Author.Rules.{rules}
-use borrow.Author.Tests.{lt_ltb}
+use borrow.Author.Tests.{lt-ltb}
 use native.Mathlib.Omega.{arith}
 use mathlib.Core.Path.{◌≡◌, refl, sym, ◌∙◌}
 use mathlib.Core.List.{◌++◌}
@@ -69,7 +69,7 @@ loop-again c =
       keeps_dropped l.invariant.0 _ _ _,
       rw (put_dropped l.invariant.0 l.c c.before.channel_at_lem.ensures (eqb c.before.before.before.before.before.before.wide.result a.p) (eqb c.before.before.before.before.wide2.result a.p) c.drop-one.ensures)
           (drop_more n a.p l.c _ c.drop-one.result m
-          (rw (c.drop-one.ensures, c.before.channel_at_lem.ensures, c.before.before.before.before.wide2.ensures, c.before.before.before.before.before.before.wide.ensures, lt_ltb l.c a.count c.before.before.before.before.before.before.before.before.loop-test.true))
+          (rw (c.drop-one.ensures, c.before.channel_at_lem.ensures, c.before.before.before.before.wide2.ensures, c.before.before.before.before.before.before.wide.ensures, lt-ltb l.c a.count c.before.before.before.before.before.before.before.before.loop-test.true))
           ∙ l.invariant.1),
     )
 

@@ -1,11 +1,11 @@
 -- `runs::pick_bytes::names` meets its contract.
 -- Assumes nothing.
-use borrow.Author.Tests.{lt_ltb, le-ltb}
+use borrow.Author.Tests.{lt-ltb, le-ltb}
 use Rattle.runs.proofs.pick_bytes.names.Statement.{statement}
 use Rattle.runs.proofs.pick_bytes.names.Tie as tie
 
 returns : tie.Need-returns
-returns c = rw (lt_ltb _ _ c.if1.true)
+returns c = rw (lt-ltb _ _ c.if1.true)
 
 returns-2 : tie.Need-returns-2
 returns-2 c = rw (le-ltb _ _ c.if1.false)
