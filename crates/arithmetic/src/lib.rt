@@ -1,4 +1,6 @@
 // Arithmetic on signed 32-bit numbers: sum, difference and product wrap; quotient and remainder.
+#![tactic(auto)]
+
 ghost use Rattle.std.specs.Prelude.{◌≡◌, pos, negsuc};
 ghost use Rattle.arithmetic.specs.Wrap.{wrap, sum_of, difference_of, product_of};
 ghost use Rattle.arithmetic.specs.Quotient.{told, quotient_of, remainder_of, Division};

@@ -1,5 +1,7 @@
 // What the crates above share: the refusals of document 01 with their numbers, and tests made in order,
 // whose answer is the first place that fails.
+#![tactic(auto)]
+
 ghost use Rattle.std.specs.Prelude.{◌≡◌, cond, ◌-◌, ◌≤◌, length};
 ghost use Rattle.base.specs.Refusals.{number_of};
 ghost use Rattle.base.specs.Tests.{first_bad, is_zero};

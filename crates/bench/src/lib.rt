@@ -1,4 +1,6 @@
 // The bench on byte slices: a lane file, input records and pick bytes give a listing, or a refusal.
+#![tactic(auto)]
+
 mod playing;
 mod tests;
 

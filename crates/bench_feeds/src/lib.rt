@@ -1,4 +1,6 @@
 // The inputs of a bench: fed until they are full or spent, the spent ones closed.
+#![tactic(auto)]
+
 ghost use Rattle.std.specs.Prelude.{◌≡◌, false, ℕ, ◌<◌, get_or};
 ghost use Rattle.lane.specs.State.{is_ended};
 ghost use Rattle.outer_ends.specs.Outer.{Outer};

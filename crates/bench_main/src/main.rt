@@ -1,4 +1,6 @@
 // The bench program: net.bin, in.bin and picks.bin of the folder it is run in, to a listing on standard output, or `refused number`.
+#![tactic(auto)]
+
 use base::Refusal;
 use bench::BenchAnswer;
 

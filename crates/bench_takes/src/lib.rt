@@ -1,4 +1,6 @@
 // The outputs of a bench: emptied into lines of its listing, on the lent arrays of a lane's channels.
+#![tactic(auto)]
+
 ghost use Rattle.std.specs.Prelude.{◌≡◌, true, false, cond, not, ◌&&◌, ◌||◌, ◌+◌, ◌≤◌, ◌<◌, eqb, ltb, length, get_or, set};
 ghost use Rattle.network.specs.Rules.{outside};
 ghost use Rattle.lane.specs.Calls.{take_told};

@@ -1,5 +1,7 @@
 // A turn of a bench, a pick byte with what comes before and after it, and at last the lines of the processes, each written as it comes. The lane is lent in
 // arrays; nothing of it is copied. Public for the bench, which has shown that the lane is sound and that there is room.
+#![tactic(auto)]
+
 ghost use Rattle.std.specs.Prelude.{◌≡◌, true, ℕ, ◌+◌, ◌≤◌, ◌<◌, length, get_or};
 ghost use Rattle.lane_parts.specs.Parts.{condition_of, parts, fixed};
 ghost use Rattle.waits.specs.Parts.{wait_as};

@@ -1,4 +1,6 @@
 // The check of a lane file's block: CRC-16, polynomial 0x1021, start 0xFFFF, no reflection, no final exclusive-or.
+#![tactic(auto)]
+
 ghost use Rattle.std.specs.Prelude.{◌≡◌};
 ghost use Rattle.block_check.specs.Crc.{byte, entries, crc};
 

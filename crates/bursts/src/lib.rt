@@ -1,5 +1,7 @@
 // A burst of values for one channel, from outside (document 02, request 1): as single feeds one after the other, until one is refused. The tests are made
 // once, and then the values go in one by one, in place.
+#![tactic(auto)]
+
 ghost use Rattle.std.specs.Prelude.{◌≡◌, List, ℕ, ◌≤◌, ◌<◌, ℤ, length};
 ghost use Rattle.process.specs.Execute.{full};
 ghost use Rattle.lane.specs.State.{world};

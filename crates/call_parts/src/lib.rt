@@ -1,4 +1,6 @@
 // The parts of the calls on a lane: the tests of a call in their order, what a call reads of a lane, and its answers. Public for the calls.
+#![tactic(auto)]
+
 ghost use Rattle.std.specs.Prelude.{◌≡◌, List, ◌<◌, ℤ};
 ghost use Rattle.lane.specs.State.{world, count};
 ghost use Rattle.lane.specs.Calls.{pick_told, feed_told, take_told, receiver_ended};

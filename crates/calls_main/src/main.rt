@@ -1,5 +1,7 @@
 // Runs a script of calls on a lane, from standard input, and prints each of its lines, with the answer and all that the call changed
 // (docs/SCRIPTS.md). `stdin` is a script for a person to read, and `stdout` holds what document 01 says that it must answer.
+#![tactic(auto)]
+
 mod answers;
 mod calls;
 mod edits;

@@ -1,4 +1,6 @@
 // The driver: rounds of picks, and a relief after each round.
+#![tactic(auto)]
+
 ghost use Rattle.std.specs.Prelude.{◌≡◌, false, cond, ◌*◌, ◌≤◌, eqb};
 ghost use Rattle.base.specs.Refusals.{number_of};
 ghost use Rattle.lane.specs.State.{world};

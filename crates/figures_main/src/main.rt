@@ -1,6 +1,8 @@
 // What is measured: the block check, reading a file and the soundness test on the largest lane, the test on that lane with all processes ended and on a
 // little lane, bursts of 256 values and of none, and a bench of 3,000 pick bytes, each many times. An argument names one of them, `check`, `read`, `sound`,
 // `ended`, `little`, `values`, `tests` or `bench`, by its first letter, for a count of its instructions; without one all are made. Prints what they answered.
+#![tactic(auto)]
+
 use bench::BenchAnswer;
 use lane::{Lane, Standing};
 use lane_file::Answer;

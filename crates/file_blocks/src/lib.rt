@@ -1,4 +1,6 @@
 // The blocks of a lane file: the tests 1 to 3 of document 01 in their order, and the network that the blocks of a file hold.
+#![tactic(auto)]
+
 ghost use Rattle.std.specs.Prelude.{◌≡◌, ◌+◌, ◌*◌, ◌%◌, ◌≤◌, ◌<◌, length, get_or};
 ghost use Rattle.base.specs.Tests.{need};
 ghost use Rattle.base.specs.Lists.{table, word_at};

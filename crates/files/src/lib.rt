@@ -1,4 +1,6 @@
 // A file of the folder in which a program is run. Document 01: "an unreadable file is empty".
+#![tactic(auto)]
+
 ghost use Rattle.std.specs.Prelude.{◌≤◌, length};
 ghost use Rattle.io.specs.Counts.{IsPrefixLen};
 

@@ -1,4 +1,6 @@
 // The two functions that a host written in C calls, on byte slices: the block check, and the bench. include/lane.h declares them.
+#![tactic(auto)]
+
 ghost use Rattle.std.specs.Prelude.{◌≡◌, ◌≤◌, pos, neg_ℤ};
 ghost use Rattle.block_check.specs.Crc.{crc};
 ghost use Rattle.bench.specs.Bench.{bench_of};

@@ -1,6 +1,8 @@
 // The sums of a code: each instruction weighed as one number, with what two tables add to it, one by its opcode and one by its field b (specs/Sums.antt).
 // The sums of many instructions are laid over one another; a flag in any of them is a flag in all. No instruction is jumped on, which is what makes this
 // quick, and none is named: `network::instructions` names the first wrong one.
+#![tactic(auto)]
+
 ghost use Rattle.std.specs.Prelude.{◌≡◌, ◌+◌, ◌*◌, ◌≤◌, ◌<◌};
 ghost use Rattle.base.specs.Tests.{first_bad, is_good};
 ghost use Rattle.network.specs.Code.{instruction_at};

@@ -1,5 +1,7 @@
 // The two tables of words that are added to an instruction, by its opcode and by its field b (specs/Words.antt). They are made in place, which spares
 // a copy of each. Public for the test of a code.
+#![tactic(auto)]
+
 ghost use Rattle.std.specs.Prelude.{◌≡◌, ◌+◌, ◌-◌, ◌≤◌, ◌<◌, replicate};
 ghost use Rattle.base.specs.Lists.{table};
 ghost use Rattle.instruction_words.specs.Words.{room, no_opcode, opcode_word, long_word, plain_word, channel_word};

@@ -1,4 +1,6 @@
 // A lane: a network with its state, and what the calls on it answer. The calls themselves stand in the crates above.
+#![tactic(auto)]
+
 use base::Refusal;
 use network::Network;
 use process::{Channel, Condition};

@@ -1,4 +1,6 @@
 // The calls on a lane: a pick of a process; feed, close and take at a channel, from outside. A refused call hands the lane back as it was.
+#![tactic(auto)]
+
 ghost use Rattle.std.specs.Prelude.{◌≡◌, List, ◌<◌, ℤ, length};
 ghost use Rattle.lane.specs.State.{world};
 ghost use Rattle.lane.specs.Calls.{called, picked, pick_of, pick_told, feed_told, take_told, refuse, receiver_inside, fed, feed_of, closed, close_of, taken, take_of};

@@ -1,4 +1,5 @@
 // Lane files: reading one into a network, and writing a network's one file.
+#![tactic(auto)]
 
 use base::Refusal;
 use network::Network;

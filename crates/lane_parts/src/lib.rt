@@ -1,4 +1,6 @@
 // A lane as separate arrays of numbers, each of which can be lent by itself: taken apart, put together, and what the crates above read in them.
+#![tactic(auto)]
+
 ghost use Rattle.std.specs.Prelude.{◌≡◌, ◌+◌, ◌<◌, length, get_or};
 ghost use Rattle.process.specs.Channels.{no_channel, slot};
 ghost use Rattle.lane.specs.State.{is_ended};

@@ -1,4 +1,6 @@
 // Reading a lane file: the tests 1 to 7 of document 01 in their order, and the network of a file that passes them.
+#![tactic(auto)]
+
 ghost use Rattle.std.specs.Prelude.{◌≡◌, ◌+◌, ◌-◌, ◌*◌, ◌≤◌, ◌<◌, length, get_or};
 ghost use Rattle.base.specs.Tests.{in_turn};
 ghost use Rattle.network.specs.Rules.{total, records, instructions};

@@ -1,4 +1,6 @@
 // The lane at the start, and whether a lane is sound.
+#![tactic(auto)]
+
 ghost use Rattle.std.specs.Prelude.{◌≡◌, false, ◌&&◌, ◌≤◌};
 ghost use Rattle.base.specs.Lists.{table};
 ghost use Rattle.lane.specs.State.{fresh_channel, fresh_of};

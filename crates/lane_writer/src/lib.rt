@@ -1,4 +1,6 @@
 // A network's one lane file, written front to back into a buffer.
+#![tactic(auto)]
+
 ghost use Rattle.std.specs.Prelude.{◌≡◌, [], ◌∷◌, ◌++◌, ◌+◌, ◌-◌, ◌*◌, ◌≤◌, length, get_or, take, drop, replicate};
 ghost use Rattle.base.specs.Lists.{joined, two_bytes};
 ghost use Rattle.block_check.specs.Crc.{crc};

@@ -1,5 +1,7 @@
 // Feed, close and take at one channel, on the lent arrays of a lane's channels. The crates above have made the tests before (15, 16, 8, 9), and count an
 // accepted call where they keep that count.
+#![tactic(auto)]
+
 ghost use Rattle.std.specs.Prelude.{◌<◌};
 ghost use Rattle.lane_parts.specs.Parts.{ThirtyTwo};
 ghost use Rattle.lent_calls.specs.OneChannel.{Feedable, FedIn, ClosedIn, Takeable, TakenIn};

@@ -1,4 +1,6 @@
 // A pick on lent arrays: each changing array of a lane is lent by itself, and nothing of a lane is copied for a pick.
+#![tactic(auto)]
+
 mod finish;
 
 ghost use Rattle.lane_parts.specs.Parts.{parts, fixed};

@@ -1,4 +1,6 @@
 // Rounds of picks on lent arrays, with a relief after each but the last, and a single pick of a lane by value.
+#![tactic(auto)]
+
 ghost use Rattle.std.specs.Prelude.{◌≡◌, true, ◌&&◌, ◌<◌, eqb, length};
 ghost use Rattle.lane.specs.State.{world};
 ghost use Rattle.lane.specs.Sound.{sound_of};

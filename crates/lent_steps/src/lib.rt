@@ -1,5 +1,7 @@
 // The instructions on lent arrays: those that touch a channel, and the match that picks by the opcode. Each stores what it changes, and answers what is
 // left to do.
+#![tactic(auto)]
+
 ghost use Rattle.std.specs.Prelude.{◌≡◌, ℕ, ◌≤◌, ◌<◌, List, ℤ, length, get_or};
 ghost use Rattle.network.specs.Rules.{receiver_of};
 ghost use Rattle.lane.specs.State.{ended_at};

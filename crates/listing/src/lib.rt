@@ -1,5 +1,7 @@
 // The lines of a bench listing, written into a lent buffer. Each function writes from a place on and answers the place after what it wrote. They are
 // public for the bench, which has shown that there is room.
+#![tactic(auto)]
+
 ghost use Rattle.std.specs.Prelude.{◌≡◌, ◌+◌, ◌≤◌, ◌<◌, length};
 ghost use Rattle.listing.specs.Number.{number};
 ghost use Rattle.listing.specs.Text.{integer, word, line_text, out, end, grow, proc};

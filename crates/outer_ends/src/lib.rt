@@ -1,4 +1,6 @@
 // The channels of a network with an end at the outside, listed so that a loop goes from one to the next.
+#![tactic(auto)]
+
 ghost use Rattle.std.specs.Prelude.{ℕ, ◌≤◌, ◌≡◌, length, get_or};
 ghost use Rattle.outer_ends.specs.Outer.{Outer};
 

@@ -2,6 +2,8 @@
 // between two processes, one that sends and one that receives, in turn; and in drives two that wait for each other beside a clock. An argument names one
 // of the four, `run`, `drive`, `message` or `stuck`, by its first letter, for a count of the instructions that a pick takes, or a message; without one all
 // are made. Prints how many picks moved.
+#![tactic(auto)]
+
 use lane::Lane;
 use lane_file::Answer;
 use network::Network;

@@ -1,5 +1,7 @@
 // Whether a network, any value of the record, passes the file's rules: one answer, quickly, for the soundness of a lane and for the writer. The reader,
 // which names the place of what is wrong, has the tests in `network`.
+#![tactic(auto)]
+
 ghost use Rattle.std.specs.Prelude.{◌≡◌, ℕ, ◌≤◌, ◌<◌, length, get_or};
 ghost use Rattle.base.specs.Tests.{is_good};
 ghost use Rattle.network.specs.Rules.{instructions, passes};

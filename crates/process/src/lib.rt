@@ -1,4 +1,6 @@
 // A channel of a lane and its operations, the condition of a process, and what an instruction did.
+#![tactic(auto)]
+
 ghost use Rattle.std.specs.Prelude.{◌≡◌, ◌<◌};
 ghost use Rattle.process.specs.Channels.{put_one, get_one, close_one, empty_one, enlarge_one};
 ghost use Rattle.process.specs.Want.{counted};

@@ -1,5 +1,7 @@
 // The instructions that touch registers alone, each one function on the lent register file, which stores what it changes and answers what is left to do.
 // They are public for `lent_steps`, which has shown what they require: the registers lie in the file.
+#![tactic(auto)]
+
 ghost use Rattle.std.specs.Prelude.{◌≡◌, cond, ◌+◌, ◌≤◌, ◌<◌, pos, get_or, set};
 ghost use Rattle.arithmetic.specs.Wrap.{sum_of, difference_of, product_of};
 ghost use Rattle.arithmetic.specs.Quotient.{told, quotient_of, remainder_of};

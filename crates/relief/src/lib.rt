@@ -1,4 +1,6 @@
 // Relief: the ring that is relieved, and the channel that grows.
+#![tactic(auto)]
+
 ghost use Rattle.std.specs.Prelude.{◌≡◌, ◌++◌, ◌≤◌, length, take, drop};
 ghost use Rattle.waits.specs.Lent.{arrays, Relievable};
 ghost use Rattle.relief.specs.Relief.{told, relief, relieve_of};

@@ -1,4 +1,6 @@
 // The search for the ring to relieve, on the waits of all processes: it looks only at those that stripping leaves.
+#![tactic(auto)]
+
 mod strip;
 
 ghost use Rattle.std.specs.Prelude.{◌≡◌, not, ◌&&◌, ◌||◌, ◌≤◌, eqb, ltb};

@@ -2,6 +2,8 @@
 // `stdout` holds what document 01 says that they must answer.
 //
 // A record of data/rings.bin: a lane file of 1,024 bytes; a title, its length first, in 64; the number of picks in two, and the picks.
+#![tactic(auto)]
+
 ghost use Rattle.std.specs.Prelude.{◌<◌};
 
 use lane::Lane;

@@ -1,4 +1,6 @@
 // A run: bytes one after the other, each a pick or, 255, a relief.
+#![tactic(auto)]
+
 mod pick_bytes;
 
 ghost use Rattle.std.specs.Prelude.{◌≡◌, false};

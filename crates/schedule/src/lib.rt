@@ -1,4 +1,6 @@
 // Picks and reliefs one after the other: what a run and the driver share.
+#![tactic(auto)]
+
 ghost use Rattle.std.specs.Prelude.{◌≡◌, cond};
 ghost use Rattle.relief.specs.Relief.{told};
 ghost use Rattle.waits.specs.Lent.{arrays, Relievable};

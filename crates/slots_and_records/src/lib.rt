@@ -1,5 +1,7 @@
 // The quick tests of a network's process slots and channel records, and of what must be zero beyond them and beyond the code. They are public for the test
 // of a whole network, which knows that each place is there. The reader, which names the place of what is wrong, has its tests in `network`.
+#![tactic(auto)]
+
 ghost use Rattle.std.specs.Prelude.{◌≡◌, ◌&&◌, ◌-◌, ◌≤◌, ◌<◌, eqb};
 ghost use Rattle.base.specs.Tests.{first_bad, is_good, between, is_zero};
 ghost use Rattle.network.specs.Rules.{slots, records, unused_slots, unused_records};

@@ -2,6 +2,8 @@
 // which tests the network first: at most 16 processes, at most 32 channels.
 // Each is handed the arrays that it reads and no lane, which is long. Arrays of numbers are lent; the short ones of structs come by value, since a
 // reference to structs is not a covered form.
+#![tactic(auto)]
+
 ghost use Rattle.std.specs.Prelude.{◌≡◌, Bool, false, cond, not, ◌&&◌, ◌||◌, ℕ, ◌-◌, ◌*◌, ◌≤◌, ◌<◌, ltb, eqb, pos, get_or, replicate};
 ghost use Rattle.base.specs.Lists.{table};
 ghost use Rattle.base.specs.Tests.{first_bad, is_good};

@@ -1,5 +1,7 @@
 // Runs the block check's published vectors, and the reader and writer over a lane file and its damaged copies, one for every clause of the
 // refusals 1 to 7; prints what each one answers. `stdout` holds what document 01 says that they must answer.
+#![tactic(auto)]
+
 mod cases;
 
 use base::Refusal;

@@ -1,4 +1,6 @@
 // Who waits for whom: for each process of a sound lane how it waits, the process that it points to, and its full wait.
+#![tactic(auto)]
+
 ghost use Rattle.std.specs.Prelude.{◌≡◌, false, length};
 ghost use Rattle.waits.specs.Parts.{waiting_of, wait_from};
 ghost use Rattle.waits.specs.Lent.{arrays, Relievable, Waitable, Looked, RoomLooked, RoomsLooked, AllLooked};
