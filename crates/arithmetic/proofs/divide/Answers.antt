@@ -12,10 +12,9 @@ use Rattle.arithmetic.specs.Quotient.{Division}
 use Rattle.arithmetic.proofs.Operands.{wide, operand, number, product_fits}
 use Rattle.arithmetic.proofs.QuotientLaws.{quotient_fits, remainder_fits}
 use Rattle.arithmetic.proofs.CutLaws.{cut_fits, cut_left_fits, cut_down, cut_up}
-use Rattle.arithmetic.proofs.divide.Statement.{statement}
-use Rattle.arithmetic.proofs.divide.Tie as tie
 use Rattle.arithmetic.proofs.divide.Reads as reads
 use Rattle.arithmetic.proofs.divide.Lts as lts
+use Rattle.arithmetic.proofs.divide.Goals as goal
 
 -- the operands, what the machine makes of them, and the product that is tested
 module _ (c : lts.Start reads.Pre reads.Post) where
@@ -46,21 +45,6 @@ module _ (c : lts.Start reads.Pre reads.Post) where
   product_right : product ≡ rem_z x y *ℤ y
   product_right = rw (to_z-of_z c.ranges.x, to_z-of_z c.ranges.y, to_z-of_z remainder_is, to_z-of_z (wide remainder_is), to_z-of_z (wide c.ranges.y)) (to_z-of_z product_is)
 
-div-quotient : tie.Need-nonzero-div-quotient
-div-quotient c = divides c
-
-rem-remainder : tie.Need-nonzero-rem-remainder
-rem-remainder c = divides c
-
-cast-if1 : tie.Need-overflow-cast-if1
-cast-if1 c = rw (to_z-of_z c.ranges.x, to_z-of_z c.ranges.y) (operand (remainder_is c))
-
-cast-if1-2 : tie.Need-overflow-cast-if1-2
-cast-if1-2 c = operand c.ranges.y
-
-mul-if1 : tie.Need-overflow-mul-if1
-mul-if1 c = rw (to_z-of_z c.ranges.x, to_z-of_z c.ranges.y, to_z-of_z (remainder_is c), to_z-of_z (wide (remainder_is c)), to_z-of_z (wide c.ranges.y)) (product_is c)
-
 -- the product is below zero
 module _ (c : lts.Then1 reads.Pre reads.Post) where
   abbrev s : lts.Start reads.Pre reads.Post
@@ -75,28 +59,39 @@ module _ (c : lts.Then1 reads.Pre reads.Post) where
   lower_remainder : SFits w32 (rem_z (x s) (y s) +ℤ y s)
   lower_remainder = remainder_fits lower s.fits.y
 
-sub-below : tie.Need-overflow-sub-below
-sub-below c = rw (to_z-of_z c.before.ranges.x, to_z-of_z c.before.ranges.y, to_z-of_z (quotient_is c.before)) (lower_quotient c)
+pub nonzero-div-quotient : goal.nonzero-div-quotient
+nonzero-div-quotient c = divides c
 
-add-rest : tie.Need-overflow-add-rest
-add-rest c = rw (to_z-of_z c.before.ranges.x, to_z-of_z c.before.ranges.y, to_z-of_z (remainder_is c.before)) (lower_remainder c)
+pub nonzero-rem-remainder : goal.nonzero-rem-remainder
+nonzero-rem-remainder c = divides c
 
-returns : tie.Need-returns
-returns c =
+pub overflow_cast-remainder : goal.overflow_cast-remainder
+overflow_cast-remainder c = rw (to_z-of_z c.ranges.x, to_z-of_z c.ranges.y) (operand (remainder_is c))
+
+pub overflow_cast-y : goal.overflow_cast-y
+overflow_cast-y c = operand c.ranges.y
+
+pub overflow_mul-remainder : goal.overflow_mul-remainder
+overflow_mul-remainder c = rw (to_z-of_z c.ranges.x, to_z-of_z c.ranges.y, to_z-of_z (remainder_is c), to_z-of_z (wide (remainder_is c)), to_z-of_z (wide c.ranges.y)) (product_is c)
+
+pub overflow_sub-below : goal.overflow_sub-below
+overflow_sub-below c = rw (to_z-of_z c.ranges.x, to_z-of_z c.ranges.y, to_z-of_z (quotient_is c)) (lower_quotient c)
+
+pub overflow_add-rest : goal.overflow_add-rest
+overflow_add-rest c = rw (to_z-of_z c.ranges.x, to_z-of_z c.ranges.y, to_z-of_z (remainder_is c)) (lower_remainder c)
+
+pub returns-then-remainder-y-lt0 : goal.returns-then-remainder-y-lt0
+returns-then-remainder-y-lt0 c =
     rw (
-      to_z-of_z c.before.ranges.x,
-      to_z-of_z c.before.ranges.y,
-      to_z-of_z (quotient_is c.before),
-      to_z-of_z (remainder_is c.before),
+      to_z-of_z c.ranges.x,
+      to_z-of_z c.ranges.y,
+      to_z-of_z (quotient_is c),
+      to_z-of_z (remainder_is c),
       to_z-of_z (lower_quotient c),
       to_z-of_z (lower_remainder c),
     ) (lower c)
 
-returns-2 : tie.Need-returns-2
-returns-2 c =
-    let s = c.before in
-    rw (to_z-of_z s.ranges.x, to_z-of_z s.ranges.y, to_z-of_z (quotient_is s), to_z-of_z (remainder_is s))
-    (cut_down (x s) (y s) s.requires.0 (ap (λ u. lt_z u (pos 0)) (sym (product_right s)) ∙ c.if1.false))
-
-pub divide_spec : {M : Type 1} → statement M
-divide_spec = tie.close (tie.spec div-quotient rem-remainder cast-if1 cast-if1-2 mul-if1 sub-below add-rest returns returns-2)
+pub returns-else-remainder-y-lt0 : goal.returns-else-remainder-y-lt0
+returns-else-remainder-y-lt0 c =
+    rw (to_z-of_z c.ranges.x, to_z-of_z c.ranges.y, to_z-of_z (quotient_is c), to_z-of_z (remainder_is c))
+    (cut_down (x c) (y c) c.requires.0 (ap (λ u. lt_z u (pos 0)) (sym (product_right c)) ∙ c.if-remainder-y-lt0.false))

@@ -13,8 +13,7 @@ use borrow.Author.Tests.{lt-ltb, le-ltb}
 use Rattle.arithmetic.specs.Wrap.{residue, centred, wrap}
 use Rattle.arithmetic.proofs.WrapLaws.{centred_low, centred_high, wrap_fits}
 use Rattle.arithmetic.proofs.Operands.{wide}
-use Rattle.arithmetic.proofs.wrap.Statement.{statement}
-use Rattle.arithmetic.proofs.wrap.Tie as tie
+use Rattle.arithmetic.proofs.wrap.Goals as goal
 
 -- the bits of a number of 64 bits have its remainder
 bits : (z : ℤ) → mag z < 9223372036854775808 → of_z w64 z % 4294967296 ≡ residue z
@@ -37,11 +36,8 @@ unfolding wrap
 shifts {z} h =
     ap (λ (n : ℕ). shr_z (to_z w64 n) 4294967296) (up (of_z w64 z)) ∙ shifted (of_z w64 z) (dec_lt _ _) ∙ ap centred (bits z h.sfits)
 
-cast-result : tie.Need-overflow-cast-result
-cast-result c = rw (shifts c.ranges.z, to_z-of_z (wide (wrap_fits c.args.z))) (wrap_fits c.args.z)
+pub overflow_cast-result : goal.overflow_cast-result
+overflow_cast-result c = rw (shifts c.ranges.z, to_z-of_z (wide (wrap_fits c.args.z))) (wrap_fits c.args.z)
 
-returns : tie.Need-returns
+pub returns : goal.returns
 returns c = rw (shifts c.ranges.z, to_z-of_z (wide (wrap_fits c.args.z)), to_z-of_z (wrap_fits c.args.z))
-
-pub wrap_spec : {M : Type 1} → statement M
-wrap_spec = tie.close (tie.spec cast-result returns)

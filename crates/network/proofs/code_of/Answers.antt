@@ -1,0 +1,80 @@
+use mathlib.Core.Path.{◌≡◌, sym, ap, ◌∙◌}
+use mathlib.Core.Bool.{Bool, true, false}
+use mathlib.Core.List.{List}
+use mathlib.Core.Logic.{⊎_elim}
+use Prim.Native.Nat.{ℕ, ◌+◌, ◌-◌, ◌≤◌}
+use borrow.Author.Tests.{eq-eqb, ne_eqb}
+use native.Mathlib.Omega.{arith}
+use Rattle.base.specs.declared.Verdict.{Verdict}
+use Rattle.base.specs.Tests.{and_then, need, first_bad}
+use Rattle.base.proofs.Tests.{on, stop, over}
+use Rattle.network.specs.declared.Network.{Network}
+use Rattle.network.specs.Code.{instruction_at, fields_right, may_be_last, stands_right}
+use Rattle.network.specs.Rules.{start_of, count_of, instruction_right, code_of}
+use Rattle.network.proofs.Last.{last_after}
+use Rattle.network.proofs.code_of.Invariants.{fields_at}
+use Rattle.network.proofs.code_of.Goals as goal
+
+abbrev last_at : List ℕ → ℕ → Bool
+last_at code i = may_be_last (instruction_at code i).op
+
+-- v is the verdict of process p in every network that has these parts
+abbrev Is : List ℕ → ℕ → List ℕ → List ℕ → ℕ → ℕ → ℕ → Verdict → Type 0
+Is code channels receiver sender start count p v =
+    (net : Network) → net.code ≡ code → net.channels ≡ channels → net.receiver ≡ receiver → net.sender ≡ sender → start_of net p ≡ start →
+    count_of net p ≡ count →
+    v ≡ code_of net p
+
+-- the fields of all first, and then the last instruction
+in_parts : (code : List ℕ) (channels : ℕ) (receiver sender : List ℕ) (start count p : ℕ) → 1 ≤ count →
+    Is code channels receiver sender start count p
+    (and_then (first_bad (fields_at code channels receiver sender count p) start count) (need (last_at code (start + count - 1)) (start + count - 1)))
+unfolding code_of instruction_right stands_right
+in_parts code channels receiver sender start count p h net ec eh er es et en =
+    rw (ec, eh, er, es, et, en) (sym (last_after (fields_at code channels receiver sender count p) (last_at code) start count h))
+
+answer : (c : tie.Start invariant-loop decreases-loop) (v : Verdict) →
+    v ≡ and_then (first_bad (fields c) c.args.start c.args.count) (need (last_at c.args.code.now (end c - 1)) (end c - 1)) →
+    Ensured c v
+answer c v e net ec eh er es et en = e ∙ in_parts _ _ _ _ _ _ _ c.requires.1 net ec eh er es et en
+
+-- past the loop all fields are right, so the answer is that of the last instruction, which was read
+ends : (c : tie.After-fetch2 invariant-loop decreases-loop) (b : Bool) → may_be_last c.fetch2.result.op ≡ b →
+    Ensured c.before.before.before (need b (end c.before.before.before - 1))
+ends c b e =
+    let l = c.before.before.loop in
+    let s = c.before.before.before in
+    let passed = sym l.invariant ∙ over (λ k. need (fields s k) k) l.i (end s) (omega arith) in
+    answer s _ (rw (passed, sym e, c.fetch2.ensures))
+
+pub loop-i-init : goal.loop-i-init
+loop-i-init c =
+    let fields : ℕ → Bool = fields_at c.args.code.now c.args.channels c.args.receiver.now c.args.sender.now c.args.count c.args.p in
+    ap (first_bad fields c.args.start) (omega arith)
+
+pub returns-then-not-fields_right : goal.returns-then-not-fields_right
+returns-then-not-fields_right c =
+    let fields : ℕ → Bool = fields_at c.args.code.now c.args.channels c.args.receiver.now c.args.sender.now c.args.count c.args.p in
+    let end : ℕ = c.args.start + c.args.count in
+    let told : c.fields_right.result ≡ fields c.loop-i.i = rw (c.fields_right.ensures, c.fetch.ensures) in
+    let l = c.loop-i in
+    let bad = sym l.invariant ∙ stop (λ k. need (fields k) k) l.i end l.i (omega arith) (rw (sym told ∙ c.if-not-fields_right.true)) in
+    answer c _ (rw bad)
+
+pub loop-i-preserved : goal.loop-i-preserved
+loop-i-preserved c =
+    let fields : ℕ → Bool = fields_at c.args.code.now c.args.channels c.args.receiver.now c.args.sender.now c.args.count c.args.p in
+    let end : ℕ = c.args.start + c.args.count in
+    let told : c.fields_right.result ≡ fields c.loop-i.i = rw (c.fields_right.ensures, c.fetch.ensures) in
+    let l = c.loop-i in
+    on (λ k. need (fields k) k) l.i end (omega arith) (rw (sym told ∙ c.if-not-fields_right.false)) ∙ l.invariant
+
+pub returns-then-last-eq0 : goal.returns-then-last-eq0
+returns-then-last-eq0 c =
+    ⊎_elim
+    (λ w. ends c true (rw (eq-eqb _ _ w.true)))
+    (λ w. ends c true (rw (ne_eqb _ _ w.0.left, w.2.true)))
+    c.if-last-eq0.branch
+
+pub returns : goal.returns
+returns c = ends c false (rw (ne_eqb _ _ c.if-last-eq0.false, c.if-last-eq8.false))
