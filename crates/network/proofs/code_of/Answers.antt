@@ -1,7 +1,6 @@
 use mathlib.Core.Path.{◌≡◌, sym, ap, ◌∙◌}
 use mathlib.Core.Bool.{Bool, true, false}
 use mathlib.Core.List.{List}
-use mathlib.Core.Logic.{⊎_elim}
 use Prim.Native.Nat.{ℕ, ◌+◌, ◌-◌, ◌≤◌}
 use borrow.Author.Tests.{eq-eqb, ne_eqb}
 use native.Mathlib.Omega.{arith}
@@ -9,11 +8,14 @@ use Rattle.base.specs.declared.Verdict.{Verdict}
 use Rattle.base.specs.Tests.{and_then, need, first_bad}
 use Rattle.base.proofs.Tests.{on, stop, over}
 use Rattle.network.specs.declared.Network.{Network}
-use Rattle.network.specs.Code.{instruction_at, fields_right, may_be_last, stands_right}
+use Rattle.network.specs.Code.{instruction_at, may_be_last, stands_right}
 use Rattle.network.specs.Rules.{start_of, count_of, instruction_right, code_of}
 use Rattle.network.proofs.Last.{last_after}
 use Rattle.network.proofs.code_of.Invariants.{fields_at}
 use Rattle.network.proofs.code_of.Goals as goal
+use Rattle.network.proofs.code_of.Goals.{then-last-eq0-via-then-last-eq0, then-last-eq0-via-else-last-eq0+then-last-eq8}
+use Rattle.network.specs.declared.Instruction.{Instruction}
+use Rattle.base.specs.declared.Verdict.TheVariants.{Bad}
 
 abbrev last_at : List ℕ → ℕ → Bool
 last_at code i = may_be_last (instruction_at code i).op
@@ -33,19 +35,24 @@ unfolding code_of instruction_right stands_right
 in_parts code channels receiver sender start count p h net ec eh er es et en =
     rw (ec, eh, er, es, et, en) (sym (last_after (fields_at code channels receiver sender count p) (last_at code) start count h))
 
-answer : (c : tie.Start invariant-loop decreases-loop) (v : Verdict) →
-    v ≡ and_then (first_bad (fields c) c.args.start c.args.count) (need (last_at c.args.code.now (end c - 1)) (end c - 1)) →
-    Ensured c v
-answer c v e net ec eh er es et en = e ∙ in_parts _ _ _ _ _ _ _ c.requires.1 net ec eh er es et en
+-- instruction i is the first whose fields are wrong
+stops : (code : List ℕ) (channels : ℕ) (receiver sender : List ℕ) (start count p i : ℕ) → 1 ≤ count →
+    first_bad (fields_at code channels receiver sender count p) start count ≡ Bad i →
+    Is code channels receiver sender start count p (Bad i)
+stops code channels receiver sender start count p i h bad net ec eh er es et en =
+    rw bad at (in_parts code channels receiver sender start count p h net ec eh er es et en)
 
 -- past the loop all fields are right, so the answer is that of the last instruction, which was read
-ends : (c : tie.After-fetch2 invariant-loop decreases-loop) (b : Bool) → may_be_last c.fetch2.result.op ≡ b →
-    Ensured c.before.before.before (need b (end c.before.before.before - 1))
-ends c b e =
-    let l = c.before.before.loop in
-    let s = c.before.before.before in
-    let passed = sym l.invariant ∙ over (λ k. need (fields s k) k) l.i (end s) (omega arith) in
-    answer s _ (rw (passed, sym e, c.fetch2.ensures))
+ends : (code : List ℕ) (channels : ℕ) (receiver sender : List ℕ) (start count p i : ℕ) → 1 ≤ count → start + count ≤ i →
+    first_bad (fields_at code channels receiver sender count p) i (start + count - i)
+    ≡ first_bad (fields_at code channels receiver sender count p) start count →
+    (last : Instruction) → last ≡ instruction_at code (start + count - 1) → (b : Bool) → may_be_last last.op ≡ b →
+    Is code channels receiver sender start count p (need b (start + count - 1))
+ends code channels receiver sender start count p i h past inv last read b e net ec eh er es et en =
+    let asked : last_at code (start + count - 1) ≡ b = ap (λ (t : Instruction). may_be_last t.op) (sym read) ∙ e in
+    let fields : ℕ → Bool = fields_at code channels receiver sender count p in
+    let passed = sym inv ∙ over (λ k. need (fields k) k) i (start + count) past in
+    rw (passed, asked) at (in_parts code channels receiver sender start count p h net ec eh er es et en)
 
 pub loop-i-init : goal.loop-i-init
 loop-i-init c =
@@ -58,8 +65,8 @@ returns-then-not-fields_right c =
     let end : ℕ = c.args.start + c.args.count in
     let told : c.fields_right.result ≡ fields c.loop-i.i = rw (c.fields_right.ensures, c.fetch.ensures) in
     let l = c.loop-i in
-    let bad = sym l.invariant ∙ stop (λ k. need (fields k) k) l.i end l.i (omega arith) (rw (sym told ∙ c.if-not-fields_right.true)) in
-    answer c _ (rw bad)
+    let bad : first_bad fields c.args.start c.args.count ≡ Bad l.i = sym l.invariant ∙ stop (λ k. need (fields k) k) l.i end l.i (omega arith) (rw (sym told ∙ c.if-not-fields_right.true)) in
+    stops _ _ _ _ _ _ _ _ c.requires.1 bad
 
 pub loop-i-preserved : goal.loop-i-preserved
 loop-i-preserved c =
@@ -71,10 +78,14 @@ loop-i-preserved c =
 
 pub returns-then-last-eq0 : goal.returns-then-last-eq0
 returns-then-last-eq0 c =
-    ⊎_elim
-    (λ w. ends c true (rw (eq-eqb _ _ w.true)))
-    (λ w. ends c true (rw (ne_eqb _ _ w.0.left, w.2.true)))
-    c.if-last-eq0.branch
+    let may : may_be_last c.fetch-last.result.op ≡ true =
+    elim c.then-last-eq0.branch [
+      | then-last-eq0-via-then-last-eq0 w ↦ rw (eq-eqb _ _ w.if-last-eq0.true)
+      | then-last-eq0-via-else-last-eq0+then-last-eq8 w ↦ rw (ne_eqb _ _ w.if-last-eq0.false, w.if-last-eq8.true)
+    ] in
+    ends _ _ _ _ _ _ _ c.loop-i.i c.requires.1 (omega arith) c.loop-i.invariant _ c.fetch-last.ensures true may
 
 pub returns : goal.returns
-returns c = ends c false (rw (ne_eqb _ _ c.if-last-eq0.false, c.if-last-eq8.false))
+returns c =
+    ends _ _ _ _ _ _ _ c.loop-i.i c.requires.1 (omega arith) c.loop-i.invariant _ c.fetch-last.ensures false
+    (rw (ne_eqb _ _ c.if-last-eq0.false, ne_eqb _ _ c.if-last-eq8.false))
