@@ -1,28 +1,31 @@
 // A file of the folder in which a program is run. Document 01: "an unreadable file is empty".
 #![tactic(auto)]
 
-ghost use Rattle.std.specs.Prelude.{◌≤◌, length};
+ghost use Rattle.std.specs.Prelude.{◌≤◌, ◌+◌, length, IfOk};
 ghost use Rattle.io.specs.Counts.{IsPrefixLen};
 
-// One read into the buffer from a place on: how many bytes it put there, 0 at the end of the file; negative where it failed.
-fn read_on(fd: i32, buffer: &mut [u8], at: usize) -> isize
+use std::fs::File;
+use std::io;
+use std::io::Read;
+use std::rt::Files;
+
+// One read into the buffer from a place on: how many bytes it put there, 0 at the end of the file; an error where it failed.
+fn read_on<F: Read>(file: &mut F, buffer: &mut [u8], at: usize) -> io::Result<usize>
     requires { at ≤ length buffer.old }
+    ensures { IfOk result (λ more. at + more ≤ length buffer.new) }
 {
-    libc::read(fd, &mut buffer[at..])
+    file.read(&mut buffer[at..])
 }
 
-// What is read until the buffer is full or the file ends; nothing where a read fails, whatever came before it. So it is a loop of its own:
-// `io::read_full` takes a failed read for the end.
-fn read_whole(fd: i32, buffer: &mut [u8]) -> usize
+// What is read until the buffer is full or the file ends; nothing where a read fails, whatever came before it. So it is a loop of its own.
+fn read_whole<F: Read>(file: &mut F, buffer: &mut [u8]) -> usize
     ensures { IsPrefixLen result buffer.new }
 {
     let mut n: usize = 0;
     while n < buffer.len() {
-        let got = read_on(fd, buffer, n);
-        if got < 0 {
+        let Ok(more) = read_on(file, buffer, n) else {
             return 0;
-        }
-        let more = io::count(got, &buffer[n..]);
+        };
         if more == 0 {
             return n;
         }
@@ -32,15 +35,15 @@ fn read_whole(fd: i32, buffer: &mut [u8]) -> usize
 }
 
 // Puts a file at the front of the buffer, and answers how many bytes it has; of one with more bytes than there is room for, the first ones. A file
-// that cannot be opened or read is empty.
-pub fn load(name: &[u8], buffer: &mut [u8]) -> usize
+// that cannot be opened or read is empty, as is one whose name is not UTF-8.
+pub fn load<R: Files>(rt: &R, name: &[u8], buffer: &mut [u8]) -> usize
     ensures { IsPrefixLen result buffer.new }
 {
-    let fd = os::open_read(name);
-    if fd < 0 {
+    let Ok(path) = str::from_utf8(name) else {
         return 0;
-    }
-    let n = read_whole(fd, buffer);
-    libc::close(fd);
-    n
+    };
+    let Ok(mut file) = File::open(rt, path) else {
+        return 0;
+    };
+    read_whole(&mut file, buffer)
 }
