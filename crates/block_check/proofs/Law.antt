@@ -58,14 +58,14 @@ flat_xor a b ha hb =
     (ap (λ (x : ℕ). x * 4129) (xor_shr a b 15) ∙ poly_xor (a / 32768) (b / 32768) (omega arith) (omega arith))
     ∙ xor_cross (a * 2 % 65536) (b * 2 % 65536) (a / 32768 * 4129) (b / 32768 * 4129)
 
-bit_xor : (a b : ℕ) → a < 65536 → b < 65536 → bit (bit_xor a b) ≡ bit_xor (bit a) (bit b)
-bit_xor a b ha hb =
+bit_linear : (a b : ℕ) → a < 65536 → b < 65536 → bit (bit_xor a b) ≡ bit_xor (bit a) (bit b)
+bit_linear a b ha hb =
     bit_flat (bit_xor a b) (xor_lt 16 a b ha hb) ∙ flat_xor a b ha hb ∙ ap₂ bit_xor (sym (bit_flat a ha)) (sym (bit_flat b hb))
 
 -- the division is linear
 pub bits_xor : (n a b : ℕ) → a < 65536 → b < 65536 → bits n (bit_xor a b) ≡ bit_xor (bits n a) (bits n b)
 bits_xor zero a b ha hb = refl
-bits_xor (suc n) a b ha hb = ap (bits n) (bit_xor a b ha hb) ∙ bits_xor n (bit a) (bit b) (bit_lt a ha) (bit_lt b hb)
+bits_xor (suc n) a b ha hb = ap (bits n) (bit_linear a b ha hb) ∙ bits_xor n (bit a) (bit b) (bit_lt a ha) (bit_lt b hb)
 
 -- what has the upper half empty is only shifted: computed at each of the 256
 shifted : (l : ℕ) → l < 256 → bits 8 l ≡ l * 256
