@@ -5,7 +5,6 @@ use mathlib.Core.Path.{◌≡◌, refl, ap, ◌∙◌}
 use mathlib.Core.List.{List}
 use Prim.Native.Nat.{ℕ, ◌+◌, ◌-◌, ◌*◌, ◌≤◌, ◌<◌}
 use native.Mathlib.Omega.{arith}
-use borrow.Author.Rules.{rules}
 use lib.ListN.{length, get_or, set}
 use lib.Seq.{get_or-set_other}
 use Rattle.base.specs.Lists.{table}
@@ -13,8 +12,7 @@ use Rattle.base.proofs.Lists.{Filled, table_at}
 use Rattle.instruction_words.specs.Words.{opcode_word}
 use Rattle.instruction_words.proofs.Words.{opcode_small}
 use Rattle.instruction_words.proofs.Tables.{next, table_long, same_front, same_rest, same_word, jump_large, receive_large, jump_recounts, receive_recounts, jump_8, jump_10}
-use Rattle.instruction_words.proofs.count_words.Statement.{statement}
-use Rattle.instruction_words.proofs.count_words.Tie as tie
+use Rattle.instruction_words.proofs.count_words.Goals as goal
 
 -- the word of 11 is not stored to before it is read
 receive_there : (before p : ℕ) (old : List ℕ) → old ≡ table 256 (opcode_word before p) → (x y z : ℕ)
@@ -63,71 +61,25 @@ module _ (before count p : ℕ) (old : List ℕ) (hp : p < 16) (hb : before ≤ 
       (next (opcode_word count p) old 11 jumps _ (table_long (opcode_word before p) old e) (omega arith)
       (ap recounted (receive_there before p old e (jump + 0x7F0701) jump (jump - 1)) ∙ receive_recounts before count hb hc p) jumps_filled)
 
-mul-more : tie.Need-overflow-mul-more
-mul-more c = search rules
+pub overflow_add-jump : goal.overflow_add-jump
+overflow_add-jump c = omega (arith, jump_fits _ c.args.count _ _ c.requires.0 c.requires.1 c.requires.2 c.requires.3)
 
-mul-less : tie.Need-overflow-mul-less
-mul-less c = search rules
+pub overflow_sub-jump : goal.overflow_sub-jump
+overflow_sub-jump c = omega (arith, jump_fits _ c.args.count _ _ c.requires.0 c.requires.1 c.requires.2 c.requires.3)
 
-element-copy-out-jump : tie.Need-element-copy-out-jump
-element-copy-out-jump c = search rules
+pub overflow_add-words : goal.overflow_add-words
+overflow_add-words c = omega (arith, jump_fits _ c.args.count _ _ c.requires.0 c.requires.1 c.requires.2 c.requires.3)
 
-add-jump : tie.Need-overflow-add-jump
-add-jump c = let s = c.before in omega (arith, jump_fits _ s.args.count _ _ s.requires.0 s.requires.1 s.requires.2 s.requires.3)
+pub overflow_sub-words : goal.overflow_sub-words
+overflow_sub-words c = omega (arith, jump_fits _ c.args.count _ _ c.requires.0 c.requires.1 c.requires.2 c.requires.3)
 
-sub-jump : tie.Need-overflow-sub-jump
-sub-jump c = let s = c.before in omega (arith, jump_fits _ s.args.count _ _ s.requires.0 s.requires.1 s.requires.2 s.requires.3)
+pub overflow_add-words-2 : goal.overflow_add-words-2
+overflow_add-words-2 c =
+    rw (receive_there _ _ _ c.requires.3) (omega (arith, receive_large c.args.before c.args.p, opcode_small c.args.before c.args.p 11 c.requires.0))
 
-add_words : tie.Need-overflow-add-words
-add_words c = let s = c.before in omega (arith, jump_fits _ s.args.count _ _ s.requires.0 s.requires.1 s.requires.2 s.requires.3)
+pub overflow_sub-words-2 : goal.overflow_sub-words-2
+overflow_sub-words-2 c =
+    rw (receive_there _ _ _ c.requires.3) (omega (arith, receive_large c.args.before c.args.p, opcode_small c.args.before c.args.p 11 c.requires.0))
 
-element-write-words : tie.Need-element-write-words
-element-write-words c = search rules
-
-element-write-words-2 : tie.Need-element-write-words-2
-element-write-words-2 c = search rules
-
-sub_words : tie.Need-overflow-sub-words
-sub_words c = let s = c.before in omega (arith, jump_fits _ s.args.count _ _ s.requires.0 s.requires.1 s.requires.2 s.requires.3)
-
-element-write-words-3 : tie.Need-element-write-words-3
-element-write-words-3 c = search rules
-
-element-copy-out-words : tie.Need-element-copy-out-words
-element-copy-out-words c = search rules
-
-add-words-2 : tie.Need-overflow-add-words-2
-add-words-2 c =
-    let s = c.before.before in
-    rw (receive_there _ _ _ s.requires.3) (omega (arith, receive_large s.args.before s.args.p, opcode_small s.args.before s.args.p 11 s.requires.0))
-
-sub-words-2 : tie.Need-overflow-sub-words-2
-sub-words-2 c =
-    let s = c.before.before in
-    rw (receive_there _ _ _ s.requires.3) (omega (arith, receive_large s.args.before s.args.p, opcode_small s.args.before s.args.p 11 s.requires.0))
-
-element-write-words-4 : tie.Need-element-write-words-4
-element-write-words-4 c = search rules
-
-returns : tie.Need-returns
-returns c = let s = c.before.before in all_recounted _ _ _ _ s.requires.0 s.requires.1 s.requires.2 s.requires.3
-
-pub count_words_spec : {M : Type 1} → statement M
-count_words_spec =
-    tie.close
-    (tie.spec
-    mul-more
-    mul-less
-    element-copy-out-jump
-    add-jump
-    sub-jump
-    add_words
-    element-write-words
-    element-write-words-2
-    sub_words
-    element-write-words-3
-    element-copy-out-words
-    add-words-2
-    sub-words-2
-    element-write-words-4
-    returns)
+pub returns : goal.returns
+returns c = all_recounted _ _ _ _ c.requires.0 c.requires.1 c.requires.2 c.requires.3

@@ -4,15 +4,13 @@ use mathlib.Core.Path.{◌≡◌, refl, ap, ◌∙◌}
 use mathlib.Core.List.{List}
 use Prim.Native.Nat.{ℕ, ◌+◌, ◌<◌}
 use native.Mathlib.Omega.{arith}
-use borrow.Author.Rules.{rules}
 use lib.ListN.{get_or, set}
 use Rattle.base.specs.Lists.{table}
 use Rattle.base.proofs.Lists.{Filled}
 use Rattle.instruction_words.specs.Words.{opcode_word}
 use Rattle.instruction_words.proofs.Words.{opcode_small}
 use Rattle.instruction_words.proofs.Tables.{next, still, table_long, same_front, same_rest, same_word, receive_next, send_next, close_next}
-use Rattle.instruction_words.proofs.next_words.Statement.{statement}
-use Rattle.instruction_words.proofs.next_words.Tie as tie
+use Rattle.instruction_words.proofs.next_words.Goals as goal
 
 -- the table `old` of process p, as the stores change it
 module _ (count p : ℕ) (old : List ℕ) (hp : p < 16) (e : old ≡ table 256 (opcode_word count p)) where
@@ -48,53 +46,17 @@ module _ (count p : ℕ) (old : List ℕ) (hp : p < 16) (e : old ≡ table 256 (
       same_rest (opcode_word count (p + 1)) (opcode_word count p) old e 14 _ (λ k h m. same_word count count p (p + 1) k (λ l n. refl) (λ l n. omega arith))
       (store 13 0x3FFFFE00000000 sent (omega arith) (close_next count p hp) sent_filled)
 
-element-copy-out-words : tie.Need-element-copy-out-words
-element-copy-out-words c = search rules
+pub overflow_add-words : goal.overflow_add-words
+overflow_add-words c =
+    omega (arith, there _ _ _ c.requires.0 c.requires.2 11 _ (front _ _ _ c.requires.0 c.requires.2) (omega arith), opcode_small c.args.count c.args.p 11 c.requires.0)
 
-add_words : tie.Need-overflow-add-words
-add_words c =
-    let s = c.before in
-    omega (arith, there _ _ _ s.requires.0 s.requires.2 11 _ (front _ _ _ s.requires.0 s.requires.2) (omega arith), opcode_small s.args.count s.args.p 11 s.requires.0)
+pub overflow_add-words-2 : goal.overflow_add-words-2
+overflow_add-words-2 c =
+    omega (arith, there _ _ _ c.requires.0 c.requires.2 12 _ (received_filled _ _ _ c.requires.0 c.requires.2) (omega arith), opcode_small c.args.count c.args.p 12 c.requires.0)
 
-element-write-words : tie.Need-element-write-words
-element-write-words c = search rules
+pub overflow_add-words-3 : goal.overflow_add-words-3
+overflow_add-words-3 c =
+    omega (arith, there _ _ _ c.requires.0 c.requires.2 13 _ (sent_filled _ _ _ c.requires.0 c.requires.2) (omega arith), opcode_small c.args.count c.args.p 13 c.requires.0)
 
-element-copy-out-words-2 : tie.Need-element-copy-out-words-2
-element-copy-out-words-2 c = search rules
-
-add-words-2 : tie.Need-overflow-add-words-2
-add-words-2 c =
-    let s = c.before.before in
-    omega (arith, there _ _ _ s.requires.0 s.requires.2 12 _ (received_filled _ _ _ s.requires.0 s.requires.2) (omega arith), opcode_small s.args.count s.args.p 12 s.requires.0)
-
-element-write-words-2 : tie.Need-element-write-words-2
-element-write-words-2 c = search rules
-
-element-copy-out-words-3 : tie.Need-element-copy-out-words-3
-element-copy-out-words-3 c = search rules
-
-add-words-3 : tie.Need-overflow-add-words-3
-add-words-3 c =
-    let s = c.before.before.before in
-    omega (arith, there _ _ _ s.requires.0 s.requires.2 13 _ (sent_filled _ _ _ s.requires.0 s.requires.2) (omega arith), opcode_small s.args.count s.args.p 13 s.requires.0)
-
-element-write-words-3 : tie.Need-element-write-words-3
-element-write-words-3 c = search rules
-
-returns : tie.Need-returns
-returns c = let s = c.before.before.before in all_next _ _ _ s.requires.0 s.requires.2
-
-pub next_words_spec : {M : Type 1} → statement M
-next_words_spec =
-    tie.close
-    (tie.spec
-    element-copy-out-words
-    add_words
-    element-write-words
-    element-copy-out-words-2
-    add-words-2
-    element-write-words-2
-    element-copy-out-words-3
-    add-words-3
-    element-write-words-3
-    returns)
+pub returns : goal.returns
+returns c = all_next _ _ _ c.requires.0 c.requires.2
