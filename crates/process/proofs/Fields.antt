@@ -115,4 +115,4 @@ above l e = omega arith
 -- an opcode above 13 faults
 pub beyond : (i : Instruction) (q : Process) → 14 ≤ i.op → want_live i q ≡ halt (faulted q)
 unfolding want_live
-beyond i q h = rw get_or-eq_default
+beyond i q h = simp get_or-eq_default
