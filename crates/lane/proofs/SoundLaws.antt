@@ -11,7 +11,7 @@ use lib.Dec.{eqb, ltb, leb}
 use lib.IntN.{ℤ, pos, negsuc}
 use lib.ListN.{length, get_or, get_or-eq_default}
 use Rattle.base.specs.Tests.{first_bad, is_good}
-use Rattle.base.proofs.Tests.{each, each_true, all_true}
+use Rattle.base.proofs.Tests.{each_true, all_true}
 use Rattle.base.proofs.Lists.{table_at, same_at}
 use Rattle.network.specs.declared.Network.{Network}
 use Rattle.network.specs.Rules.{count_of, sender_of, receiver_of, capacity_of, outside, end_right, ends_right, record_right, records, record_zero, unused_records, passes}

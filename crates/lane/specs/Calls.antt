@@ -1,13 +1,12 @@
 -- Document 01, "Refusal table", 8 to 12, 15 and 16: the calls on a lane and its cells, refused ones included.
 -- Assumes nothing.
-use Rattle.std.specs.Prelude.{Bool, true, false, cond, not, List, ℕ, eqb, ltb, length, set, ℤ}
+use Rattle.std.specs.Prelude.{Bool, cond, not, ℕ, eqb, ltb, length, set, ℤ}
 use Rattle.base.specs.Refusals.{number_of}
 use Rattle.network.specs.Rules.{sender_of, receiver_of, outside}
 use Rattle.process.specs.declared.Outcome.{Outcome}
 use Rattle.process.specs.declared.Outcome.TheVariants.{Moved, Sent, Halted, WaitEmpty, WaitFull, Ended}
 use Rattle.process.specs.Channels.{put_one, get_one, close_one, slot}
 use Rattle.process.specs.Execute.{full}
-use Rattle.lane.specs.declared.Lane.{Lane}
 use Rattle.lane.specs.declared.PickAnswer.{PickAnswer}
 use Rattle.lane.specs.declared.PickAnswer.TheVariants as pick-answer
 use Rattle.lane.specs.declared.FeedAnswer.{FeedAnswer}

@@ -1,6 +1,6 @@
 -- Document 01, below the refusal table: when a lane is sound (16); document 02, request 6: the highest filling of a channel.
 -- Assumes nothing.
-use Rattle.std.specs.Prelude.{Bool, true, false, not, ◌&&◌, ◌||◌, List, ℕ, ◌-◌, ◌*◌, eqb, ltb, leb, get_or, ℤ, pos}
+use Rattle.std.specs.Prelude.{Bool, not, ◌&&◌, ◌||◌, ℕ, ◌-◌, ◌*◌, eqb, ltb, leb, get_or, pos}
 use Rattle.base.specs.Tests.{first_bad, is_good, between}
 use Rattle.network.specs.Rules.{count_of, sender_of, receiver_of, passes}
 use Rattle.process.specs.declared.Channel.{Channel}

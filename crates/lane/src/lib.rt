@@ -6,7 +6,7 @@ use network::Network;
 use process::{Channel, Condition};
 
 // A process without its registers, which lie in the lane's register file.
-#[derive(Drop)]
+#[derive(Clone, Copy)]
 pub struct Standing {
     pub position: u16,
     pub condition: Condition,
@@ -14,7 +14,7 @@ pub struct Standing {
 }
 
 // Sixteen processes of eight registers each, thirty-two channels; `accepted` counts the accepted calls.
-#[derive(Drop)]
+#[derive(Clone, Copy)]
 pub struct Lane {
     pub network: Network,
     pub registers: [i32; 128],
