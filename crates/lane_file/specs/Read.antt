@@ -1,6 +1,6 @@
 -- Document 01, "The lane file" and "Refusal table", 1 to 7: what reading a list of bytes answers.
 -- Assumes nothing.
-use Rattle.std.specs.Prelude.{Bool, true, false, ◌&&◌, List, ℕ, ◌+◌, ◌-◌, ◌*◌, ◌/◌, ◌%◌, ◌<◌, min, eqb, length, get_or, take, drop, replicate}
+use Rattle.std.specs.Prelude.{Bool, ◌&&◌, List, ℕ, ◌+◌, ◌-◌, ◌*◌, ◌/◌, ◌%◌, ◌<◌, min, eqb, length, get_or, take, drop, replicate}
 use Rattle.base.specs.declared.Verdict.{Verdict}
 use Rattle.base.specs.declared.Verdict.TheVariants.{Good, Bad}
 use Rattle.base.specs.Refusals.{number_of}
