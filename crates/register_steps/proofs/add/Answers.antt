@@ -1,0 +1,17 @@
+-- `register_steps::add` meets its contract.
+-- Assumes nothing.
+use mir.Facts.{to_z-of_z}
+use mir.Syntax.{w32}
+use mir.Val.{SFits}
+use mathlib.Core.Path.{refl}
+use Rattle.arithmetic.specs.Wrap.{sum_of}
+use Rattle.process.proofs.Numbers.{operands}
+use Rattle.register_steps.proofs.add.Goals as goal
+
+pub returns : goal.returns
+returns c =
+    let x = c.register-x in
+    let y = c.register-y in
+    let z = c.sum in
+    let f : SFits w32 z.result = record { sfits = z.type_inv } in
+    (refl, rw (c.assign.ensures, to_z-of_z f, z.ensures, operands sum_of (record { sfits = x.type_inv }) (record { sfits = y.type_inv }) x.ensures y.ensures))
