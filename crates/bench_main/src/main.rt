@@ -26,13 +26,13 @@ fn show(file: &[u8], input: &[u8], picks: &[u8]) {
 }
 
 // Each buffer has one byte more than the longest file that is taken, so that a longer one is seen.
-fn main() {
+fn main(rt: HostRuntime) {
     let mut file = [0u8; 4609];
-    let file_length = files::load(b"net.bin", &mut file);
+    let file_length = files::load(&rt, b"net.bin", &mut file);
     let mut input = [0u8; 20481];
-    let input_length = files::load(b"in.bin", &mut input);
+    let input_length = files::load(&rt, b"in.bin", &mut input);
     let mut picks = [0u8; 3001];
-    let picks_length = files::load(b"picks.bin", &mut picks);
+    let picks_length = files::load(&rt, b"picks.bin", &mut picks);
     show(
         &file[..file_length],
         &input[..input_length],

@@ -143,10 +143,10 @@ fn call_of(line: &[u8]) -> Call {
     if fits(line, b"drive N") {
         return Call::Drive(number_at(line, 1));
     }
-    if check::same(word(line, 0), b"run") {
+    if word(line, 0) == b"run".as_slice() {
         return run_of(line);
     }
-    if check::same(word(line, 0), b"burst") {
+    if word(line, 0) == b"burst".as_slice() {
         return burst_of(line);
     }
     Call::Bad
@@ -178,7 +178,7 @@ fn room_of(line: &[u8]) -> Line {
 
 // This is the first word of the line, and something stands after it and a space.
 fn begins(line: &[u8], name: &[u8]) -> bool {
-    check::same(word(line, 0), name) && name.len() + 1 < line.len()
+    word(line, 0) == name && name.len() + 1 < line.len()
 }
 
 fn edit_line(line: &[u8], with: bool) -> Line {

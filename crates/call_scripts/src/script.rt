@@ -146,19 +146,19 @@ pub fn value_at(line: &[u8], n: usize) -> i32 {
 
 // A word has a form: N is a number below 2^64, V a value, and each other word stands for itself.
 fn word_fits(word: &[u8], form: &[u8]) -> bool {
-    if check::same(form, b"N") {
+    if form == b"N".as_slice() {
         return match number(word) {
             Natural::Is(_) => true,
             Natural::Not => false,
         };
     }
-    if check::same(form, b"V") {
+    if form == b"V".as_slice() {
         return match value(word) {
             Signed::Is(_) => true,
             Signed::Not => false,
         };
     }
-    check::same(word, form)
+    word == form
 }
 
 // A line has a form, word by word.

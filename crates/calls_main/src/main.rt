@@ -17,6 +17,7 @@ use call_scripts::lines;
 use call_scripts::lines::{Call, Line};
 use call_scripts::script::{next, rest};
 use lane::Lane;
+use std::rt::Files;
 
 // A lane, and how many of the cells are lent to a call. The cells stand beside it, as does a second row of cells: what they were before a call.
 #[derive(Drop)]
@@ -53,9 +54,9 @@ fn fresh(file: &[u8]) -> Lane {
 }
 
 // The fresh lane of a file of this folder. The buffer has one byte more than the longest file that is taken, so that a longer one is seen.
-fn start(cells: &mut [i32], name: &[u8]) -> Desk {
+fn start(rt: &impl Files, cells: &mut [i32], name: &[u8]) -> Desk {
     let mut file = [0u8; 4609];
-    let n = files::load(name, &mut file);
+    let n = files::load(rt, name, &mut file);
     fill(cells, 99);
     Desk {
         lane: fresh(&file[..n]),
@@ -63,9 +64,9 @@ fn start(cells: &mut [i32], name: &[u8]) -> Desk {
     }
 }
 
-fn read(name: &[u8]) {
+fn read(rt: &impl Files, name: &[u8]) {
     let mut file = [0u8; 4609];
-    let n = files::load(name, &mut file);
+    let n = files::load(rt, name, &mut file);
     let reading = lane_reader::read(&file[..n]);
     let answer = reading.answer;
     print(words::COLON);
@@ -138,13 +139,13 @@ fn lend(desk: Desk, room: usize) -> Desk {
 }
 
 // ---- the script
-fn step(desk: Desk, cells: &mut [i32], had: &mut [i32], line: &[u8]) -> Desk {
+fn step(rt: &impl Files, desk: Desk, cells: &mut [i32], had: &mut [i32], line: &[u8]) -> Desk {
     let asked = lines::line_of(line);
     match asked {
         Line::Note => desk,
-        Line::Lane => start(cells, rest(line, 5)),
+        Line::Lane => start(rt, cells, rest(line, 5)),
         Line::Read => {
-            read(rest(line, 5));
+            read(rt, rest(line, 5));
             desk
         }
         Line::Write(n) => {
@@ -170,7 +171,7 @@ fn step(desk: Desk, cells: &mut [i32], had: &mut [i32], line: &[u8]) -> Desk {
 }
 
 // Each line as it stands, with what is printed after it.
-fn run(text: &[u8], cells: &mut [i32], had: &mut [i32]) {
+fn run(rt: &impl Files, text: &[u8], cells: &mut [i32], had: &mut [i32]) {
     let mut desk = Desk {
         lane: fresh(b""),
         room: 8192,
@@ -179,7 +180,7 @@ fn run(text: &[u8], cells: &mut [i32], had: &mut [i32]) {
     while at < text.len() {
         let end = next(text, at, b'\n');
         io::write_all(1, &text[at..end]);
-        desk = step(desk, cells, had, &text[at..end]);
+        desk = step(rt, desk, cells, had, &text[at..end]);
         print(words::NEWLINE);
         at = end + 1;
     }
@@ -192,10 +193,10 @@ fn space() -> [u8; 1048576]
     [0; 1048576]
 }
 
-fn main() {
+fn main(rt: HostRuntime) {
     let mut text = space();
     let n = io::read_full(0, &mut text);
     let mut cells = [99i32; 8193];
     let mut had = [99i32; 8193];
-    run(&text[..n], &mut cells, &mut had);
+    run(&rt, &text[..n], &mut cells, &mut had);
 }

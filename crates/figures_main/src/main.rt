@@ -7,6 +7,8 @@ use bench::BenchAnswer;
 use lane::{Lane, Standing};
 use lane_file::Answer;
 use process::{Channel, Condition};
+use std::env::Env;
+use std::rt::Files;
 
 const OUT: i32 = 1;
 
@@ -85,9 +87,9 @@ fn sounds(lane: Lane) -> u64 {
 }
 
 // The largest lane with room for 256 messages in channel 0, which comes from outside; its first message goes to a place that the compiler does not know.
-fn burst_lane(oldest: u8) -> Lane {
+fn burst_lane(rt: &impl Files, oldest: u8) -> Lane {
     let mut file = [0u8; 4608];
-    io::read_full(os::open_read(b"burst.bin"), &mut file);
+    files::load(rt, b"burst.bin", &mut file);
     let mut lane = lane_of(&file);
     lane.channels[0] = Channel {
         capacity: 256,
@@ -156,19 +158,19 @@ fn benches(file: &[u8], input: &[u8], picks: &[u8], listing: &mut [u8]) -> u64 {
 }
 
 // The lane file of the bench.
-fn bench_file() -> [u8; 1024] {
+fn bench_file(rt: &impl Files) -> [u8; 1024] {
     let mut file = [0u8; 1024];
-    io::read_full(os::open_read(b"net.bin"), &mut file);
+    files::load(rt, b"net.bin", &mut file);
     file
 }
 
 // A bench on its three files.
-fn play() -> u64 {
-    let file = bench_file();
+fn play(rt: &impl Files) -> u64 {
+    let file = bench_file(rt);
     let mut input = [0u8; 5000];
-    io::read_full(os::open_read(b"in.bin"), &mut input);
+    files::load(rt, b"in.bin", &mut input);
     let mut picks = [0u8; 3000];
-    io::read_full(os::open_read(b"picks.bin"), &mut picks);
+    files::load(rt, b"picks.bin", &mut picks);
     let mut listing = [0u8; 65536];
     benches(&file, &input, &picks, &mut listing)
 }
@@ -180,15 +182,15 @@ fn print(name: &[u8], number: u64) {
     io::write_all(OUT, b"\n");
 }
 
-fn main() {
+fn main(rt: HostRuntime) {
     let mut word = [0u8; 8];
-    os::arg(1, &mut word);
+    let _ = rt.arg(1, &mut word);
     let what = word[0];
     let mut file = [0u8; 4608];
-    io::read_full(os::open_read(b"largest.bin"), &mut file);
+    files::load(&rt, b"largest.bin", &mut file);
     let largest = lane_of(&file);
-    let little = lane_of(&bench_file());
-    let roomy = burst_lane(what);
+    let little = lane_of(&bench_file(&rt));
+    let roomy = burst_lane(&rt, what);
     if what == 0 || what == 99 {
         print(b"check", checks(file));
     }
@@ -213,6 +215,6 @@ fn main() {
         print(b"tests", deliveries(roomy, &values));
     }
     if what == 0 || what == 98 {
-        print(b"bench", play());
+        print(b"bench", play(&rt));
     }
 }

@@ -7,6 +7,8 @@
 use lane::Lane;
 use lane_file::Answer;
 use network::Network;
+use std::env::Env;
+use std::rt::Files;
 
 const OUT: i32 = 1;
 
@@ -85,20 +87,20 @@ fn pace(name: &[u8], file: &[u8], drives: bool) {
 }
 
 // The three lanes, one after the other.
-fn paces(drives: bool) {
+fn paces(rt: &impl Files, drives: bool) {
     let mut file = [0u8; 1024];
-    io::read_full(os::open_read(b"ring.bin"), &mut file);
+    files::load(rt, b"ring.bin", &mut file);
     pace(b"ring", &file, drives);
-    io::read_full(os::open_read(b"pipeline.bin"), &mut file);
+    files::load(rt, b"pipeline.bin", &mut file);
     pace(b"pipeline", &file, drives);
-    io::read_full(os::open_read(b"arithmetic.bin"), &mut file);
+    files::load(rt, b"arithmetic.bin", &mut file);
     pace(b"arithmetic", &file, drives);
 }
 
 // 255 sends and a jump back in process 0, 255 receives and a jump back in process 1: a run of 4,096 picks passes on 8 times 255 messages.
-fn messages() {
+fn messages(rt: &impl Files) {
     let mut file = [0u8; 3072];
-    io::read_full(os::open_read(b"message.bin"), &mut file);
+    files::load(rt, b"message.bin", &mut file);
     pace(b"message", &file, false);
 }
 
@@ -116,9 +118,9 @@ fn fresh_laps(net: Network, cells: &mut [i32]) -> u64 {
 
 // Process 0 is a clock, which jumps to itself for ever. 1 and 2 each send 100 messages to the other, then receive 100 and jump back, over channels of 1 at
 // first: after each of rounds 1 to 197 of a drive they wait for each other in a ring, and one of the two channels grows, while the clock moves.
-fn stuck() {
+fn stuck(rt: &impl Files) {
     let mut file = [0u8; 2560];
-    io::read_full(os::open_read(b"stuck.bin"), &mut file);
+    files::load(rt, b"stuck.bin", &mut file);
     let reading = lane_reader::read(&file);
     let answer = reading.answer;
     if let Answer::Accepted = answer {
@@ -127,20 +129,20 @@ fn stuck() {
     }
 }
 
-fn main() {
+fn main(rt: HostRuntime) {
     let mut word = [0u8; 8];
-    os::arg(1, &mut word);
+    let _ = rt.arg(1, &mut word);
     let what = word[0];
     if what == 0 || what == 114 {
-        paces(false);
+        paces(&rt, false);
     }
     if what == 0 || what == 100 {
-        paces(true);
+        paces(&rt, true);
     }
     if what == 0 || what == 109 {
-        messages();
+        messages(&rt);
     }
     if what == 0 || what == 115 {
-        stuck();
+        stuck(&rt);
     }
 }

@@ -9,6 +9,8 @@ ghost use Rattle.std.specs.Prelude.{◌<◌};
 use lane::Lane;
 use lane_file::Answer;
 use relief::ReliefAnswer;
+use std::fs::File;
+use std::io::Read;
 
 const OUT: i32 = 1;
 
@@ -118,13 +120,14 @@ fn print_record(record: [u8; 2048]) {
     }
 }
 
-fn main() {
-    let fd = os::open_read(b"rings.bin");
+fn main(rt: HostRuntime) -> std::io::Result<()> {
+    let mut file = File::open(&rt, "rings.bin")?;
     let mut k: usize = 0;
     while k < 16 {
         let mut record = [0u8; 2048];
-        io::read_full(fd, &mut record);
+        file.read_exact(&mut record)?;
         print_record(record);
         k += 1;
     }
+    Ok(())
 }

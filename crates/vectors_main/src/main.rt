@@ -234,16 +234,16 @@ fn print_writing(file: [u8; 1536], room: usize) {
     }
 }
 
-fn main() {
+fn main(rt: HostRuntime) {
     print_check(b"no bytes", b"");
     print_check(b"A", b"A");
     print_check(b"123456789", b"123456789");
     let mut file = [0u8; 1536];
-    io::read_full(os::open_read(b"lane.bin"), &mut file);
+    files::load(&rt, b"lane.bin", &mut file);
     print_cases(file);
     // the same file with zeros after it
     let mut long = [0u8; 5120];
-    io::read_full(os::open_read(b"lane.bin"), &mut long);
+    files::load(&rt, b"lane.bin", &mut long);
     print_lengths(long);
     print_writing(file, 5120);
     print_writing(file, 1536);
