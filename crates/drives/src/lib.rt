@@ -10,7 +10,7 @@ ghost use Rattle.relief.specs.Relief as relief;
 ghost use Rattle.waits.specs.Lent.{arrays, Relievable};
 ghost use Rattle.schedule.specs.Running.{begun};
 ghost use Rattle.schedule.specs.Lent.{Playable};
-ghost use Rattle.drives.specs.Drive.{ends, goes, by_relief, rounds, end_of, told, result, done, drive_of};
+ghost use Rattle.drives.specs.Drive.{ends, goes, by_relief, rounds, end_of, told, result as outcome, done, drive_of};
 ghost use Rattle.drives.specs.Parts.{next_of, end_by};
 ghost use Rattle.drives.specs.Lent.{RuledIn, RoundsIn};
 
@@ -63,7 +63,7 @@ struct Drove {
 
 // How a refused relief ends the drive: 14 as ceiling, 13 as settled. There is no other: the lane is sound, and there is room for any ring.
 fn end_by(refusal: Refusal) -> End
-    ensures* { λ r. ⌜ ends (end_of r) ≡ by_relief (relief.refused (number_of refusal)) ⌝ }
+    ensures { ends (end_of result) ≡ by_relief (relief.refused (number_of refusal)) }
 {
     if base::number(refusal) == 14 {
         End::Ceiling
@@ -74,7 +74,7 @@ fn end_by(refusal: Refusal) -> End
 
 // What comes after a round that moved so many processes and whose relief was refused: the drive ends only where none moved.
 fn refused_after(moved: u64, refusal: Refusal) -> Next
-    ensures* { λ r. ⌜ next_of r ≡ cond (eqb moved 0) (by_relief (relief.refused (number_of refusal))) goes ⌝ }
+    ensures { next_of result ≡ cond (eqb moved 0) (by_relief (relief.refused (number_of refusal))) goes }
 {
     if moved == 0 {
         return Next::Ends(end_by(refusal));
@@ -99,7 +99,7 @@ fn next_in(
     closed: &[bool; 32],
 ) -> After
     requires { Relievable used (arrays code.now first.now sender.now receiver.now positions.now conditions.now capacity.old oldest.now held.now peak.now closed.now) }
-    ensures* { λ r. ⌜ RuledIn moved used (arrays code.now first.now sender.now receiver.now positions.now conditions.now capacity.old oldest.now held.now peak.now closed.now) r capacity.new ⌝ }
+    ensures { RuledIn moved used (arrays code.now first.now sender.now receiver.now positions.now conditions.now capacity.old oldest.now held.now peak.now closed.now) result capacity.new }
 {
     let answer = schedule::relieve_in(
         used, code, first, sender, receiver, positions, conditions, capacity, oldest, held, peak,
@@ -122,7 +122,7 @@ fn next_in(
 
 // How a drive ends with what comes after its last round: where it would go on, the picks are spent.
 fn end_of(next: Next) -> End
-    ensures* { λ r. ⌜ end_of r ≡ end_by (next_of next) ⌝ }
+    ensures { end_of result ≡ end_by (next_of next) }
 {
     match next {
         Next::Ends(end) => end,
@@ -131,7 +131,7 @@ fn end_of(next: Next) -> End
 }
 
 fn driven(end: End, picks: u64, enlarged: u64, accepted: u64) -> Drove
-    ensures* { λ r. ⌜ r ≡ record { end = end; picks = picks; enlarged = enlarged; accepted = accepted } ⌝ }
+    ensures { result ≡ record { end = end; picks = picks; enlarged = enlarged; accepted = accepted } }
 {
     Drove {
         end,
@@ -142,7 +142,7 @@ fn driven(end: End, picks: u64, enlarged: u64, accepted: u64) -> Drove
 }
 
 fn refused(lane: Lane, refusal: Refusal) -> DriveResult
-    ensures* { λ r. ⌜ r ≡ record { lane = lane; answer = DriveAnswer.Refused refusal } ⌝ }
+    ensures { result ≡ record { lane = lane; answer = DriveAnswer.Refused refusal } }
 {
     DriveResult {
         lane,
@@ -173,7 +173,7 @@ fn rounds_in(
     cells: &mut [i32],
 ) -> Drove
     requires { Playable used (fixed code.now first.now sender.now receiver.now channels) (parts registers.old positions.old conditions.old moves.old capacity.old oldest.old held.old peak.old closed.old) cells.old × (used * most ≤ 18446744073709551615) }
-    ensures* { λ r. ⌜ RoundsIn most used (fixed code.now first.now sender.now receiver.now channels) accepted (parts registers.old positions.old conditions.old moves.old capacity.old oldest.old held.old peak.old closed.old) cells.old r (parts registers.new positions.new conditions.new moves.new capacity.new oldest.new held.new peak.new closed.new) cells.new ⌝ }
+    ensures { RoundsIn most used (fixed code.now first.now sender.now receiver.now channels) accepted (parts registers.old positions.old conditions.old moves.old capacity.old oldest.old held.old peak.old closed.old) cells.old result (parts registers.new positions.new conditions.new moves.new capacity.new oldest.new held.new peak.new closed.new) cells.new }
 {
     if most == 0 {
         return driven(End::Spent, 0, 0, accepted);
@@ -213,7 +213,7 @@ fn rounds_in(
 // The rounds of a drive on a lane by value, which is taken apart once and put together once.
 fn rounds(lane: Lane, cells: &mut [i32], most: u64) -> DriveResult
     requires { (cells_wrong (world lane cells.old) ≡ false) × (unsound (world lane cells.old) ≡ false) × (lane.network.processes * most ≤ 18446744073709551615) }
-    ensures* { λ r. ⌜ result (told r.answer) (world r.lane cells.new) ≡ done lane.network.processes (rounds most 0 (begun (world lane cells.old))) ⌝ }
+    ensures { outcome (told result.answer) (world result.lane cells.new) ≡ done lane.network.processes (rounds most 0 (begun (world lane cells.old))) }
 {
     let code = lane.network.code;
     let first = lane.network.first;
@@ -280,7 +280,7 @@ fn rounds(lane: Lane, cells: &mut [i32], most: u64) -> DriveResult
 // Rounds of picks with a number of picks, and a relief after each round, until the lane settles, its rings are at the ceiling,
 // or the picks are spent.
 pub fn drive(lane: Lane, cells: &mut [i32], budget: u64) -> DriveResult
-    ensures* { λ r. ⌜ result (told r.answer) (world r.lane cells.new) ≡ drive_of budget (world lane cells.old) ⌝ }
+    ensures { outcome (told result.answer) (world result.lane cells.new) ≡ drive_of budget (world lane cells.old) }
 {
     if cells.len() != 8192 {
         return refused(lane, Refusal::Buffer);

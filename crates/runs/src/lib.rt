@@ -9,7 +9,7 @@ ghost use Rattle.lane.specs.Calls.{cells_wrong, unsound};
 ghost use Rattle.lane_parts.specs.Parts.{parts, fixed};
 ghost use Rattle.schedule.specs.Running.{begun};
 ghost use Rattle.schedule.specs.Lent.{Playable};
-ghost use Rattle.runs.specs.Run.{bytes_run, told, result, some_unnamed, done, run_of};
+ghost use Rattle.runs.specs.Run.{bytes_run, told, result as outcome, some_unnamed, done, run_of};
 ghost use Rattle.runs.specs.Lent.{AllNamed, BytesIn};
 
 use base::Refusal;
@@ -38,7 +38,7 @@ struct Totals {
 }
 
 fn refused(lane: Lane, refusal: Refusal) -> RunResult
-    ensures* { λ r. ⌜ r ≡ record { lane = lane; answer = RunAnswer.Refused refusal } ⌝ }
+    ensures { result ≡ record { lane = lane; answer = RunAnswer.Refused refusal } }
 {
     RunResult {
         lane,
@@ -68,7 +68,7 @@ fn bytes_in(
     cells: &mut [i32],
 ) -> Totals
     requires { Playable used (fixed code.now first.now sender.now receiver.now channels) (parts registers.old positions.old conditions.old moves.old capacity.old oldest.old held.old peak.old closed.old) cells.old × AllNamed picks.now used }
-    ensures* { λ r. ⌜ BytesIn picks.now used (fixed code.now first.now sender.now receiver.now channels) accepted (parts registers.old positions.old conditions.old moves.old capacity.old oldest.old held.old peak.old closed.old) cells.old r (parts registers.new positions.new conditions.new moves.new capacity.new oldest.new held.new peak.new closed.new) cells.new ⌝ }
+    ensures { BytesIn picks.now used (fixed code.now first.now sender.now receiver.now channels) accepted (parts registers.old positions.old conditions.old moves.old capacity.old oldest.old held.old peak.old closed.old) cells.old result (parts registers.new positions.new conditions.new moves.new capacity.new oldest.new held.new peak.new closed.new) cells.new }
 {
     let plain = no_relief(picks);
     let mut moved: u64 = 0;
@@ -119,7 +119,7 @@ fn bytes_in(
 // The bytes of a run on a lane by value, which is taken apart once and put together once.
 fn bytes(lane: Lane, cells: &mut [i32], picks: &[u8]) -> RunResult
     requires { (cells_wrong (world lane cells.old) ≡ false) × (unsound (world lane cells.old) ≡ false) × (some_unnamed picks.now (world lane cells.old) ≡ false) }
-    ensures* { λ r. ⌜ result (told r.answer) (world r.lane cells.new) ≡ done (bytes_run picks.now (begun (world lane cells.old))) ⌝ }
+    ensures { outcome (told result.answer) (world result.lane cells.new) ≡ done (bytes_run picks.now (begun (world lane cells.old))) }
 {
     let code = lane.network.code;
     let first = lane.network.first;
@@ -183,7 +183,7 @@ fn bytes(lane: Lane, cells: &mut [i32], picks: &[u8]) -> RunResult
 
 // A run over given bytes: each is a pick of a process or, 255, a relief.
 pub fn run(lane: Lane, cells: &mut [i32], picks: &[u8]) -> RunResult
-    ensures* { λ r. ⌜ result (told r.answer) (world r.lane cells.new) ≡ run_of picks.now (world lane cells.old) ⌝ }
+    ensures { outcome (told result.answer) (world result.lane cells.new) ≡ run_of picks.now (world lane cells.old) }
 {
     if cells.len() != 8192 {
         return refused(lane, Refusal::Buffer);
