@@ -10,7 +10,7 @@ use Rattle.lane.specs.declared.Standing.{Standing}
 use Rattle.lane.specs.declared.Lane.{Lane}
 use Rattle.lane.specs.State.{Shaped, standing_of}
 use Rattle.lane.specs.Sound.{sound_of}
-use Rattle.lane_parts.specs.Parts.{standing, channel, standings_of, channels_of, lane_of, Parts, Full, Fixed, fixed, Lent}
+use Rattle.lane_parts.specs.Parts.{standing, standings_of, channels_of, lane_of, Parts, Full, Fixed, fixed, Lent}
 use Rattle.lane_parts.specs.Shown.{Shown}
 use Rattle.lane_parts.proofs.Zip.{standing_at, standings_length, channels_length}
 
