@@ -31,7 +31,7 @@ use Rattle.lane_parts.proofs.Lanes.{lane_shaped, stands}
 use Rattle.lane_parts.proofs.Next.{Next, next_of, instruction_is}
 use Rattle.register_steps.specs.declared.Did.{Did}
 use Rattle.register_steps.specs.declared.Did.TheVariants.{On, To, Wait, Stop, Fault}
-use Rattle.lane_parts.specs.Parts.{condition_of, standing, channel, standings_of, lane_with, lane_of, Parts, Full, Fixed, Lent, Sixteen, ThirtyTwo}
+use Rattle.lane_parts.specs.Parts.{condition_of, standing, standings_of, lane_with, lane_of, Parts, Full, Fixed, Lent, Sixteen, ThirtyTwo}
 use Rattle.lent_steps.specs.Steps.{finish, At, Turned, Ready, Gone}
 use Rattle.lane_parts.proofs.Zip.{standing_at, channel_at_lem, set_onward, set_ended}
 
