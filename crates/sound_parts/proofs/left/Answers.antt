@@ -8,8 +8,7 @@ use borrow.Author.Rules.{rules}
 use lib.Bits.{bit_and, bit_or, and_comm, and_mask}
 use lib.Dec.{eqb}
 use Rattle.flags.proofs.Clean.{or_zero}
-use Rattle.sound_parts.proofs.left.Statement.{statement}
-use Rattle.sound_parts.proofs.left.Tie as tie
+use Rattle.sound_parts.proofs.left.Goals as goal
 
 sender_zero : (ended closed : Bool) → eqb (bit_and (cond ended 65535 0) (cond closed 0 1)) 0 ≡ (not ended || closed)
 sender_zero true true = refl
@@ -26,13 +25,7 @@ left_zero : (from flag to held : ℕ) (s t closed : Bool) → from ≡ cond s 65
 left_zero from flag to held s t closed p o q h =
     or_zero (bit_and from flag) (bit_and to held) ∙ rw (p, o, q) (ap₂ ◌&&◌ (sender_zero s closed) (receiver_zero t held h))
 
-open-requires : tie.Need-open-requires
-open-requires c κs = search rules
-
-returns : tie.Need-returns
+pub returns : goal.returns
 returns c s t p q =
-    let a = c.before.args in
+    let a = c.args in
     left_zero a.from c.«open».result a.to a.held s t a.closed p c.«open».ensures q (search rules)
-
-pub left_spec : {M : Type 1} → statement M
-left_spec = tie.close (tie.spec open-requires returns)
