@@ -1,10 +1,10 @@
 -- The parts of the test of a lane. A channel is sound exactly where it is within its limits and does what its ends ask for; of a network that passes, an
 -- end of a channel in use has ended exactly where it is a process in use that has. Where all places are in use none has to be zero.
 -- Assumes nothing.
-use mathlib.Core.Path.{◌≡◌, refl, sym, ap, ◌∙◌}
+use mathlib.Core.Path.{◌≡◌, refl, ap}
 use mathlib.Core.Bool.{Bool, true, false, not, ◌&&◌, ◌||◌, and-false}
 use mathlib.Core.Logic.{◌⊎◌, inl, inr, ⊎_elim}
-use Prim.Native.Nat.{ℕ, ◌+◌, ◌*◌, ◌≤◌, ◌<◌}
+use Prim.Native.Nat.{ℕ, ◌*◌, ◌<◌}
 use borrow.Author.Tests.{eqb-true}
 use native.Mathlib.Omega.{arith}
 use lib.Dec.{eqb, ltb, leb}
@@ -12,7 +12,7 @@ use lib.IntN.{pos}
 use lib.ListN.{length, get_or, get_or-eq_default}
 use Rattle.base.specs.Tests.{need, first_bad, is_good, between}
 use Rattle.base.proofs.Tests.{each_true, over}
-use Rattle.base.proofs.Conjunction.{iff, both_true, true_both}
+use Rattle.base.proofs.Conjunction.{both_true}
 use Rattle.network.specs.Rules.{sender_of, receiver_of, capacity_of, outside, end_right, ends_right, record_right, records, passes}
 use Rattle.network.proofs.Passed.{passed}
 use Rattle.process.specs.declared.Channel.{Channel}
@@ -20,7 +20,6 @@ use Rattle.process.specs.Want.{is_null}
 use Rattle.lane.specs.declared.Lane.{Lane}
 use Rattle.lane.specs.State.{no_standing, standing_of, is_ended, ended_at, channel_of}
 use Rattle.lane.specs.Sound.{channel_sound, channel_sound_at, standing_zero, channel_zero, positions, channels_sound, unused_standings, unused_registers, unused_channels, sound_of}
-use Rattle.lane.proofs.SoundLaws.{at_each, each_at}
 use Rattle.sound_parts.proofs.Pairs.{two_kinds}
 
 -- ---- a channel: its limits, and what its ends ask for
