@@ -7,7 +7,7 @@ ghost use Rattle.base.specs.Refusals.{number_of};
 ghost use Rattle.base.specs.Tests.{first_bad, is_zero};
 
 // The refusals of the table in document 01, in its order: 1 to 17.
-#[derive(Drop)]
+#[derive(Clone, Copy)]
 pub enum Refusal {
     Length,
     Check,

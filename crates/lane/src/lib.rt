@@ -51,7 +51,7 @@ pub struct Fed {
     pub answer: FeedAnswer,
 }
 
-#[derive(Drop)]
+#[derive(Clone, Copy)]
 pub enum TakeAnswer {
     Value(i32),
     End,
