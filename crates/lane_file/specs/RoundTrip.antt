@@ -49,7 +49,7 @@ pub record OneFileOf (n : Network) (file : List ℕ) : Type 0 where
   -- and it is what is written, into whatever buffer
   pub written : (buffer : List ℕ) (k : ℕ) → (write_of n buffer).answer ≡ wrote k → take k (write_of n buffer).buffer ≡ file
 
--- Each network that passes the file's rules has one, and no other network has any (`Written-Read`). That the code is bytes is the type of its array:
+-- Each network that passes the file's rules has one, and no other network has any (`written_read`). That the code is bytes is the type of its array:
 -- `handed_bytes` beside `handed_shaped` shows it.
 abbrev pub OneFile : Type 0
 OneFile = (n : Network) → Shaped n → Bytes n.code → passes n ≡ true → OneFileOf n (file_of n)
