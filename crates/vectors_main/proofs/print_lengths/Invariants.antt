@@ -1,0 +1,10 @@
+-- `vectors_main::print_lengths` is safe and ends.
+-- Assumes nothing.
+use Prim.Native.Nat.{◌≤◌, ◌-◌}
+use Rattle.vectors_main.proofs.print_lengths.Given as goal
+
+abbrev pub invariant-loop-k : goal.invariant-loop-k
+invariant-loop-k l = l.k ≤ 13
+
+abbrev pub decreases-loop-k : goal.decreases-loop-k
+decreases-loop-k l = 13 - l.k
