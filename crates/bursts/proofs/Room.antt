@@ -4,7 +4,7 @@ use mathlib.Core.Path.{◌≡◌, refl, sym, ap, ◌∙◌, subst⁻¹}
 use mathlib.Core.Logic.{◌⊎◌, inl, inr}
 use mathlib.Core.Bool.{Bool, true, false, cond, not, false≢true}
 use mathlib.Core.List.{List, [], ◌∷◌}
-use Prim.Native.Nat.{ℕ, suc, ◌+◌, ◌-◌, ◌≤◌, ◌<◌}
+use Prim.Native.Nat.{ℕ, suc, ◌+◌, ◌≤◌, ◌<◌}
 use native.Mathlib.Decide.{dec_lt}
 use native.Mathlib.Omega.{arith}
 use borrow.Author.Tests.{lt-ltb, eq-eqb, ltb-true, eqb-true, eqb-false, not-false}
@@ -14,7 +14,7 @@ use lib.ListN.{length, get_or-eq_default}
 use Rattle.process.specs.declared.Channel.{Channel}
 use Rattle.process.specs.Channels.{no_channel, put_one}
 use Rattle.lane.specs.declared.Lane.{Lane}
-use Rattle.lane.specs.State.{World, world, channel_of}
+use Rattle.lane.specs.State.{World, channel_of}
 use Rattle.lane.specs.Sound.{sound_of}
 use Rattle.lane.specs.Calls.{Told, accepted, refused, Called, receiver_ended, feed_of}
 use Rattle.lane.proofs.CallCases.{feed_cases}

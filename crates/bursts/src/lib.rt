@@ -25,7 +25,7 @@ pub struct Delivered {
 }
 
 // What the loop leaves: how many values went in, the channel, the count of accepted calls.
-#[derive(Drop)]
+#[derive(Clone, Copy)]
 struct Poured {
     fed: usize,
     channel: Channel,
