@@ -13,7 +13,7 @@ use lib.Dec.{eqb}
 use borrow.Author.Tests.{eqb-true, eq-eqb, ne_eqb}
 use Rattle.kahn.specs.Boards.{Prefix}
 use Rattle.kahn.proofs.Conds.{cond_same, cond_is, cond_twice, cond_true}
-use Rattle.kahn.proofs.Unbounded.{State, Act, Net, Event, turn, arrive, finish, In, from, update, act, emit, seal, pour, change, does, after, step, Moves, run, round, empty, fill, rounds, happen, happens, tally, moved_at, moves_of, Legal}
+use Rattle.kahn.proofs.Unbounded.{State, Act, Net, Event, turn, arrive, finish, In, from, update, act, emit, seal, pour, change, does, step, Moves, run, round, empty, fill, rounds, happen, happens, tally, moved_at, moves_of, Legal}
 use Rattle.kahn.proofs.Diamond.{More, more_cond, none_some, Grown, keeps, change_grown, change_more, change_comm, does_grows, step_moves, step_waits, Late, absorb}
 
 in_from : (p q k : ℕ) → q ≤ p → p < q + k → In p (from q k)

@@ -11,7 +11,7 @@ use native.Mathlib.Omega.{arith}
 use borrow.Author.Tests.{lt-ltb, eqb-true, eq-eqb}
 use lib.Dec.{eqb}
 use lib.IntN.{ℤ, pos}
-use lib.ListN.{length, get_or, take, drop, replicate, length-replicate, take-append-drop}
+use lib.ListN.{length, get_or, drop, replicate, length-replicate, take-append-drop}
 use Rattle.base.proofs.Lists.{length_values, table_at, same_at}
 use Rattle.network.specs.declared.Network.{Network}
 use Rattle.network.specs.Rules.{receiver_of, passes}
@@ -21,7 +21,7 @@ use Rattle.process.specs.declared.Channel.{Channel}
 use Rattle.process.specs.declared.Outcome.{Outcome}
 use Rattle.process.specs.declared.Outcome.TheVariants.{Moved, Sent, Halted, WaitEmpty, WaitFull, Ended}
 use Rattle.process.specs.Channels.{no_channel}
-use Rattle.lane.specs.State.{World, world, no_standing, process_of, channel_of, fresh_channel, fresh_of}
+use Rattle.lane.specs.State.{World, no_standing, process_of, channel_of, fresh_channel, fresh_of}
 use Rattle.process.specs.Window.{eight}
 use Rattle.lane.specs.Pick.{step_for}
 use Rattle.lane.specs.Calls.{Called, answer_to, pick_of}
