@@ -3,7 +3,7 @@
 use mathlib.Core.Path.{◌≡◌, refl, sym, ap, ◌∙◌}
 use mathlib.Core.Bool.{Bool, true, false, cond, not, ◌&&◌, true≢false}
 use mathlib.Core.List.{List}
-use Prim.Native.Nat.{ℕ, zero, suc, ◌+◌, ◌-◌, ◌≤◌, ◌<◌}
+use Prim.Native.Nat.{ℕ, zero, suc, ◌+◌, ◌-◌, ◌≤◌}
 use native.Mathlib.Omega.{arith}
 use borrow.Author.Tests.{eqb-true, eq-eqb, not-true}
 use lib.Dec.{eqb}
@@ -20,7 +20,7 @@ use Rattle.lane_parts.proofs.Lanes.{lane_shaped, sound_counted}
 use Rattle.waits.specs.Lent.{Relievable}
 use Rattle.relief.specs.Relief.{Relief, relieve_of}
 use Rattle.relief.proofs.Enlarged.{relief_cases}
-use Rattle.schedule.specs.Running.{Running, running, begun, relief_in, has_grown, relieves}
+use Rattle.schedule.specs.Running.{Running, running, begun, has_grown, relieves}
 use Rattle.schedule.specs.Lent.{counted_by, EasedBy}
 use Rattle.schedule.proofs.Ready.{Ready, ready_all, ready_relief}
 use Rattle.schedule.proofs.Through.{grown_on}

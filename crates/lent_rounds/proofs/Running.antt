@@ -3,7 +3,7 @@
 use mathlib.Core.Path.{◌≡◌, refl, sym, ap, ◌∙◌}
 use mathlib.Core.Bool.{Bool, true, false, cond}
 use mathlib.Core.List.{List, [], ◌∷◌}
-use Prim.Native.Nat.{ℕ, ◌+◌, ◌-◌, ◌≤◌, ◌<◌}
+use Prim.Native.Nat.{ℕ, ◌+◌, ◌≤◌, ◌<◌}
 use native.Mathlib.Numerals.{add-one}
 use native.Mathlib.Omega.{arith}
 use lib.IntN.{ℤ}
@@ -81,7 +81,7 @@ module _ {picks : List ℕ} {f : Fixed} {t₀ : Parts} {cells₀ : List ℤ} (k 
             let below : p < n.processes = rw e (named i h) in
             let g = d.leaves n accepted lent w.sound below in
             let v : World = world (lane_of n accepted t) cells in
-            let a : pick_all (drop (i + 1) picks) (pick_next p (so v moved)) ≡ pick_all (drop i picks) (so v moved) = rw (add-one, drop-cons picks i 0 h, e) in
+            let a : pick_all (drop (i + 1) picks) (pick_next p (so v moved)) ≡ pick_all (drop i picks) (so v moved) = rw (add-one i, drop-cons picks i 0 h, e) in
             let b = forget (drop (i + 1) picks) (pick_next p (so v moved)) in
             let m : so (world (lane_of n accepted t') cells') (moved + r) ≡ so (pick_in p v) (cond (has_moved (step_for p v).outcome) (moved + 1) moved) = rw ((gain (has_moved (step_for p v).outcome) g.1).1, g.0) in
             record {
