@@ -1,8 +1,9 @@
 use mathlib.Core.Path.{◌≡◌, sym, ap, ◌∙◌}
 use mathlib.Core.Bool.{Bool, true, false}
 use mathlib.Core.List.{List}
+use mathlib.Core.Logic.{◌⊎◌, inl, inr}
 use Prim.Native.Nat.{ℕ, ◌+◌, ◌-◌, ◌≤◌}
-use borrow.Author.Tests.{eq-eqb, ne_eqb}
+use borrow.Author.Tests.{ne_eqb}
 use native.Mathlib.Omega.{arith}
 use Rattle.base.specs.declared.Verdict.{Verdict}
 use Rattle.base.specs.Tests.{and_then, need, first_bad}
@@ -13,7 +14,6 @@ use Rattle.network.specs.Rules.{start_of, count_of, instruction_right, code_of}
 use Rattle.network.proofs.Last.{last_after}
 use Rattle.network.proofs.code_of.Invariants.{fields_at}
 use Rattle.network.proofs.code_of.Goals as goal
-use Rattle.network.proofs.code_of.Goals.{then-last-eq0-via-then-last-eq0, then-last-eq0-via-else-last-eq0+then-last-eq8}
 use Rattle.network.specs.declared.Instruction.{Instruction}
 use Rattle.base.specs.declared.Verdict.TheVariants.{Bad}
 
@@ -54,6 +54,11 @@ ends code channels receiver sender start count p i h past inv last read b e net 
     let passed = sym inv ∙ over (λ k. need (fields k) k) i (start + count) past in
     rw (passed, asked) at (in_parts code channels receiver sender start count p h net ec eh er es et en)
 
+-- the last instruction is a stop or else a jump
+may_be : (op : ℕ) → (op ≡ 0) ⊎ ((op ≡ 0 → ⊥) × (op ≡ 8)) → may_be_last op ≡ true
+may_be op (inl e) = rw e
+may_be op (inr e) = rw e.1
+
 pub loop-i-init : goal.loop-i-init
 loop-i-init c =
     let fields : ℕ → Bool = fields_at c.args.code.now c.args.channels c.args.receiver.now c.args.sender.now c.args.count c.args.p in
@@ -78,14 +83,11 @@ loop-i-preserved c =
 
 pub returns-then-last-eq0 : goal.returns-then-last-eq0
 returns-then-last-eq0 c =
-    let may : may_be_last c.fetch-last.result.op ≡ true =
-    elim c.then-last-eq0.branch [
-      | then-last-eq0-via-then-last-eq0 w ↦ rw (eq-eqb _ _ w.if-last-eq0.true)
-      | then-last-eq0-via-else-last-eq0+then-last-eq8 w ↦ rw (ne_eqb _ _ w.if-last-eq0.false, w.if-last-eq8.true)
-    ] in
+    let may : may_be_last c.fetch-last.result.op ≡ true = may_be c.fetch-last.result.op c.then-last-eq0.either in
     ends _ _ _ _ _ _ _ c.loop-i.i c.requires.1 (omega arith) c.loop-i.invariant _ c.fetch-last.ensures true may
 
 pub returns : goal.returns
 returns c =
-    ends _ _ _ _ _ _ _ c.loop-i.i c.requires.1 (omega arith) c.loop-i.invariant _ c.fetch-last.ensures false
-    (rw (ne_eqb _ _ c.if-last-eq0.false, ne_eqb _ _ c.if-last-eq8.false))
+    let not_0 : c.fetch-last.result.op ≡ 0 → ⊥ = λ e. omega arith in
+    let not_8 : c.fetch-last.result.op ≡ 8 → ⊥ = λ e. omega arith in
+    ends _ _ _ _ _ _ _ c.loop-i.i c.requires.1 (omega arith) c.loop-i.invariant _ c.fetch-last.ensures false (rw (ne_eqb _ _ not_0, ne_eqb _ _ not_8))
