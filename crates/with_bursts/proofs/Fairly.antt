@@ -14,7 +14,7 @@ use Rattle.kahn.specs.Steps.{Step, call, inner_relief}
 use Rattle.kahn.specs.Steps as steps
 use Rattle.kahn.specs.Boards as boards
 use Rattle.kahn.specs.Boards.{Prefix, Quiet}
-use Rattle.with_bursts.specs.Acts.{Act, step, burst, after, fed, feeds, written_out}
+use Rattle.with_bursts.specs.Acts.{Act, step, burst, after, feeds, written_out}
 use Rattle.with_bursts.specs.Theorem.{Fair, WasClosed, AllIn, Exactly}
 use Rattle.with_bursts.proofs.Written.{same, written_append}
 

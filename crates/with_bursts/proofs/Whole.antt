@@ -12,7 +12,7 @@ use Rattle.kahn.specs.Steps as steps
 use Rattle.kahn.specs.Boards.{Prefix, board}
 use Rattle.kahn.specs.Theorem as kahn
 use Rattle.kahn.proofs.Whole.{one_board_holds, any_spare_fits}
-use Rattle.with_bursts.specs.Acts.{Act, taken, sent, written_out}
+use Rattle.with_bursts.specs.Acts.{Act, taken, written_out}
 use Rattle.with_bursts.specs.Theorem.{BurstsAreSteps, OnTheWay, FairAsSteps, Holds, OneBoardWithBursts, AnySpareFitsWithBursts}
 use Rattle.with_bursts.proofs.Written.{same, written_append}
 use Rattle.with_bursts.proofs.Fairly as fairly
