@@ -1,0 +1,27 @@
+use mathlib.Core.Path.{◌≡◌, refl, ap, ◌∙◌}
+use mathlib.Core.Bool.{cond}
+use Prim.Native.Nat.{ℕ}
+use native.Mathlib.Omega.{arith}
+use lib.ListN.{length}
+use Rattle.base.specs.Tests.{in_turn, first_bad, is_good}
+use Rattle.flags.proofs.Clean.{one_on, unless_zero_lem}
+use Rattle.runs.specs.Stretches.{is_pick}
+use Rattle.runs.proofs.pick_bytes.no_relief.Goals as goal
+
+pub loop-k-init : goal.loop-k-init
+unfolding in_turn
+loop-k-init c = (omega arith, refl)
+
+pub loop-k-preserved : goal.loop-k-preserved
+loop-k-preserved c =
+    let l = c.loop-k in
+    let a = c.args in
+    let told : c.unless-found.result ≡ cond (is_pick a.picks.now l.k) 0 1 = c.unless-found.ensures in
+    (omega arith, one_on (is_pick a.picks.now) 0 l.k l.k l.found c.unless-found.result (omega arith) l.invariant.1 (rw told (unless_zero_lem (is_pick a.picks.now l.k))))
+
+pub returns : goal.returns
+returns c =
+    let l = c.loop-k in
+    let a = c.args in
+    let e : l.k ≡ length a.picks.now = omega arith in
+    l.invariant.1 ∙ ap (λ (n : ℕ). is_good (first_bad (is_pick a.picks.now) 0 n)) e
