@@ -59,8 +59,7 @@ returns-then-not-slots_right c =
 pub returns-then-total-gt1016 : goal.returns-then-total-gt1016
 returns-then-total-gt1016 c =
     let net : Network = c.args.net in
-    let net_5 : Network = net in
-    let total_told : c.total-total.result ≡ total net_5 = c.total-total.ensures net_5 refl refl refl in
+    let total_told : c.total-total.result ≡ total net = c.total-total.ensures net refl refl refl in
     sym (refused _ (λ q. omega (arith, c.if-total-gt1016.true, total_told, q.total_high)))
 
 -- ---- the records
@@ -74,25 +73,19 @@ overflow_cast-p c =
 pub returns-then-not-records_right : goal.returns-then-not-records_right
 returns-then-not-records_right c =
     let net : Network = c.args.net in
-    let net_5 : Network = net in
-    let records_told : c.records_right.result ≡ is_good (records net_5) = c.records_right.ensures net_5 refl refl refl refl refl in
+    let records_told : c.records_right.result ≡ is_good (records net) = c.records_right.ensures net refl refl refl refl refl in
     sym (refused _ (λ q. false≢true (sym c.if-not-records_right.true ∙ records_told ∙ ap is_good q.records_good)))
 
 pub returns-in_default : goal.returns-in_default
 returns-in_default c =
     let net : Network = c.args.net in
-    let net_5 : Network = net in
-    let net_6 : Network = net_5 in
-    let unused_slots_told : c.unused_slots.result ≡ unused_slots net_6 = c.unused_slots.ensures net_6 refl refl refl in
+    let unused_slots_told : c.unused_slots.result ≡ unused_slots net = c.unused_slots.ensures net refl refl refl in
     sym (refused _ (λ q. bad_not_good _ _ (sym unused_slots_told ∙ c.in_default.is) q.unused_slots_good))
 
 pub returns-in_default-unused_records : goal.returns-in_default-unused_records
 returns-in_default-unused_records c =
     let net : Network = c.args.net in
-    let net_5 : Network = net in
-    let net_6 : Network = net_5 in
-    let net_7 : Network = net_6 in
-    let unused_records_told : c.unused_records.result ≡ unused_records net_7 = c.unused_records.ensures net_7 refl refl refl refl in
+    let unused_records_told : c.unused_records.result ≡ unused_records net = c.unused_records.ensures net refl refl refl refl in
     sym (refused _ (λ q. bad_not_good _ _ (sym unused_records_told ∙ c.in_default-unused_records.is) q.unused_records_good))
 
 pub all_zero-requires : goal.all_zero-requires
@@ -102,11 +95,8 @@ pub returns-then-not-all_zero : goal.returns-then-not-all_zero
 unfolding unused_code
 returns-then-not-all_zero c =
     let net : Network = c.args.net in
-    let net_5 : Network = net in
-    let total_told : c.total-total.result ≡ total net_5 = c.total-total.ensures net_5 refl refl refl in
-    let net_6 : Network = net_5 in
-    let net_7 : Network = net_6 in
-    let zeros_told : c.all_zero.result ≡ is_good (unused_code net_7) = let n = net_7 in c.all_zero.ensures ∙ ap (λ (t : ℕ). is_good (first_bad (is_zero n.code) (4 * t) (4064 - 4 * t))) total_told in
+    let total_told : c.total-total.result ≡ total net = c.total-total.ensures net refl refl refl in
+    let zeros_told : c.all_zero.result ≡ is_good (unused_code net) = let n = net in c.all_zero.ensures ∙ ap (λ (t : ℕ). is_good (first_bad (is_zero n.code) (4 * t) (4064 - 4 * t))) total_told in
     sym (refused _ (λ q. false≢true (sym c.if-not-all_zero.true ∙ zeros_told ∙ ap is_good q.unused_code_good)))
 
 pub code_right-requires : goal.code_right-requires
@@ -115,11 +105,10 @@ code_right-requires c =
     let sizes : Sizes net = record { processes_low = omega arith; processes_high = omega (arith, ltb-false); channels_low = omega arith; channels_high = omega (arith, ltb-false) } in
     let slots_told : c.slots_right.result ≡ is_good (slots net) = c.slots_right.ensures net refl refl refl in
     let slots_right : slots net ≡ Good = good_is _ (sym slots_told ∙ c.if-not-slots_right.false) in
-    let net_5 : Network = net in
-    let total_told : c.total-total.result ≡ total net_5 = c.total-total.ensures net_5 refl refl refl in
-    let total_fits : total net_5 ≤ 1016 = omega (arith, c.if-total-gt1016.false, total_told) in
+    let total_told : c.total-total.result ≡ total net = c.total-total.ensures net refl refl refl in
+    let total_fits : total net ≤ 1016 = omega (arith, c.if-total-gt1016.false, total_told) in
     let s = sizes in
-    (s.processes_high, s.channels_high, placed net_5 slots_right total_fits)
+    (s.processes_high, s.channels_high, placed net slots_right total_fits)
 
 pub returns : goal.returns
 unfolding unused_code
@@ -128,19 +117,16 @@ returns c =
     let sizes : Sizes net = record { processes_low = omega arith; processes_high = omega (arith, ltb-false); channels_low = omega arith; channels_high = omega (arith, ltb-false) } in
     let slots_told : c.slots_right.result ≡ is_good (slots net) = c.slots_right.ensures net refl refl refl in
     let slots_right : slots net ≡ Good = good_is _ (sym slots_told ∙ c.if-not-slots_right.false) in
-    let net_5 : Network = net in
-    let total_told : c.total-total.result ≡ total net_5 = c.total-total.ensures net_5 refl refl refl in
-    let total_fits : total net_5 ≤ 1016 = omega (arith, c.if-total-gt1016.false, total_told) in
-    let records_told : c.records_right.result ≡ is_good (records net_5) = c.records_right.ensures net_5 refl refl refl refl refl in
-    let net_6 : Network = net_5 in
-    let records_good : records net_6 ≡ Good = good_is _ (sym records_told ∙ c.if-not-records_right.false) in
-    let unused_slots_told : c.unused_slots.result ≡ unused_slots net_6 = c.unused_slots.ensures net_6 refl refl refl in
-    let net_7 : Network = net_6 in
-    let unused_records_told : c.unused_records.result ≡ unused_records net_7 = c.unused_records.ensures net_7 refl refl refl refl in
-    let zeros_told : c.all_zero.result ≡ is_good (unused_code net_7) = let n = net_7 in c.all_zero.ensures ∙ ap (λ (t : ℕ). is_good (first_bad (is_zero n.code) (4 * t) (4064 - 4 * t))) total_told in
+    let total_told : c.total-total.result ≡ total net = c.total-total.ensures net refl refl refl in
+    let total_fits : total net ≤ 1016 = omega (arith, c.if-total-gt1016.false, total_told) in
+    let records_told : c.records_right.result ≡ is_good (records net) = c.records_right.ensures net refl refl refl refl refl in
+    let records_good : records net ≡ Good = good_is _ (sym records_told ∙ c.if-not-records_right.false) in
+    let unused_slots_told : c.unused_slots.result ≡ unused_slots net = c.unused_slots.ensures net refl refl refl in
+    let unused_records_told : c.unused_records.result ≡ unused_records net = c.unused_records.ensures net refl refl refl refl in
+    let zeros_told : c.all_zero.result ≡ is_good (unused_code net) = let n = net in c.all_zero.ensures ∙ ap (λ (t : ℕ). is_good (first_bad (is_zero n.code) (4 * t) (4064 - 4 * t))) total_told in
     let s = sizes in
     let g = slots_right in
-    let n = net_5 in
+    let n = net in
     last n
     (λ i. record {
       processes_low = s.processes_low;
