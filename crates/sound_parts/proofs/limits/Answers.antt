@@ -12,7 +12,7 @@ use Rattle.process.specs.declared.Channel.{Channel}
 use Rattle.process.specs.Channels.{no_channel}
 use Rattle.lane.specs.Sound.{channel_sound}
 use Rattle.flags.specs.Clean.{clean}
-use Rattle.flags.proofs.Clean.{clean_or}
+use Rattle.flags.proofs.Clean.{clean_or, Tells}
 use Rattle.sound_parts.proofs.Within.{room_clean, oldest_clean, above_clean}
 use Rattle.sound_parts.proofs.Pairs.{two_kinds}
 use Rattle.sound_parts.proofs.limits.Invariants.{roomy, early, filled, two, more}
@@ -37,16 +37,24 @@ loop-c-preserved c =
           ∙ ap₂ ◌&&◌ (above_clean h.held h.peak (search rules) (search rules)) (above_clean h.peak h.capacity (search rules) (search rules))),
     )
 
+-- past the last channel, the answer of all, where b is that of the first two numbers
+told : (channels : List Channel) (used i rooms oldests fillings : ℕ) → i ≡ used → Tells 0xFF00 (roomy channels) 0 i rooms →
+    Tells 0xFF00 (early channels) 0 i oldests → Tells 0x10000 (filled channels) 0 i fillings →
+    (b : Bool) → clean 0xFF00 (bit_or rooms oldests) ≡ b →
+    (b && clean 0x10000 fillings) ≡ is_good (first_bad (λ k. channel_sound false false (get_or channels k no_channel)) 0 used)
+told channels used i rooms oldests fillings e r o f b p =
+    let both =
+    clean_or 0xFF00 rooms oldests ∙ ap₂ ◌&&◌ r o ∙ sym (two_kinds (placed channels) (roomy channels) (early channels) 0 i (λ k h m. refl)) in
+    ap₂ ◌&&◌ (sym p ∙ both) f ∙ rw e (sym (two_kinds _ (placed channels) (filled channels) 0 used (λ k h m. two (get_or channels k no_channel))))
+
 pub returns-then-rooms-wide-eq0 : goal.returns-then-rooms-wide-eq0
 returns-then-rooms-wide-eq0 c lane e =
-    let told : (b : Bool) → clean 0xFF00 (bit_or c.loop-c.rooms c.loop-c.oldests) ≡ b → (b && clean 0x10000 c.loop-c.fillings) ≡ is_good (first_bad (λ k. channel_sound false false (get_or c.args.channels k no_channel)) 0 c.args.used) = λ b. λ p. let l = c.loop-c in let a = c.args in let e : l.c ≡ a.used = omega arith in let both = clean_or 0xFF00 l.rooms l.oldests ∙ ap₂ ◌&&◌ l.invariant.1 l.invariant.2 ∙ sym (two_kinds _ (roomy a.channels) (early a.channels) 0 l.c (λ k h m. refl)) in ap₂ ◌&&◌ (sym p ∙ both) l.invariant.3 ∙ rw e (sym (two_kinds _ (placed a.channels) (filled a.channels) 0 a.used (λ k h m. two (get_or a.channels k no_channel)))) in
-    let good : clean 0xFF00 (bit_or c.loop-c.rooms c.loop-c.oldests) ≡ true =
-    rw c.wide.ensures at (eq-eqb _ 0 c.if-rooms-wide-eq0.true) in
-    rw e (told true good)
+    let l = c.loop-c in
+    let good : clean 0xFF00 (bit_or l.rooms l.oldests) ≡ true = rw c.wide.ensures at (eq-eqb _ 0 c.if-rooms-wide-eq0.true) in
+    rw e (told _ _ _ _ _ _ (omega arith) l.invariant.1 l.invariant.2 l.invariant.3 true good)
 
 pub returns-else-rooms-wide-eq0 : goal.returns-else-rooms-wide-eq0
 returns-else-rooms-wide-eq0 c lane e =
-    let told : (b : Bool) → clean 0xFF00 (bit_or c.loop-c.rooms c.loop-c.oldests) ≡ b → (b && clean 0x10000 c.loop-c.fillings) ≡ is_good (first_bad (λ k. channel_sound false false (get_or c.args.channels k no_channel)) 0 c.args.used) = λ b. λ p. let l = c.loop-c in let a = c.args in let e : l.c ≡ a.used = omega arith in let both = clean_or 0xFF00 l.rooms l.oldests ∙ ap₂ ◌&&◌ l.invariant.1 l.invariant.2 ∙ sym (two_kinds _ (roomy a.channels) (early a.channels) 0 l.c (λ k h m. refl)) in ap₂ ◌&&◌ (sym p ∙ both) l.invariant.3 ∙ rw e (sym (two_kinds _ (placed a.channels) (filled a.channels) 0 a.used (λ k h m. two (get_or a.channels k no_channel)))) in
-    let bad : clean 0xFF00 (bit_or c.loop-c.rooms c.loop-c.oldests) ≡ false =
-    rw c.wide.ensures at (ne_eqb _ 0 c.if-rooms-wide-eq0.false) in
-    rw e (ne_eqb _ 0 c.if-rooms-wide-eq0.false ∙ told false bad)
+    let l = c.loop-c in
+    let bad : clean 0xFF00 (bit_or l.rooms l.oldests) ≡ false = rw c.wide.ensures at (ne_eqb _ 0 c.if-rooms-wide-eq0.false) in
+    rw e (ne_eqb _ 0 c.if-rooms-wide-eq0.false ∙ told _ _ _ _ _ _ (omega arith) l.invariant.1 l.invariant.2 l.invariant.3 false bad)
