@@ -6,7 +6,7 @@ mod tests;
 
 ghost use Rattle.std.specs.Prelude.{◌≡◌, true, ◌≤◌, length};
 ghost use Rattle.network.specs.Rules.{passes};
-ghost use Rattle.bench.specs.Bench.{told, result, played, bench_of};
+ghost use Rattle.bench.specs.Bench.{told, result as outcome, played, bench_of};
 
 use base::Refusal;
 use lane_file::Answer;
@@ -22,7 +22,7 @@ pub enum BenchAnswer {
 // An accepted file's network: 17, 8, else the listing.
 fn play(net: Network, input: &[u8], picks: &[u8], listing: &mut [u8]) -> BenchAnswer
     requires { (passes net ≡ true) × (65536 ≤ length listing.old) }
-    ensures* { λ r. ⌜ result (told r) listing.new ≡ played net input.now picks.now listing.old ⌝ }
+    ensures { outcome (told result) listing.new ≡ played net input.now picks.now listing.old }
 {
     if tests::input_wrong(net, input, picks) {
         return BenchAnswer::Refused(Refusal::Input);
@@ -35,7 +35,7 @@ fn play(net: Network, input: &[u8], picks: &[u8], listing: &mut [u8]) -> BenchAn
 
 // The bench: a listing, or a refusal that leaves the buffer as it is. A listing always fits in 65,536 bytes.
 pub fn bench(file: &[u8], input: &[u8], picks: &[u8], listing: &mut [u8]) -> BenchAnswer
-    ensures* { λ r. ⌜ result (told r) listing.new ≡ bench_of file.now input.now picks.now listing.old ⌝ }
+    ensures { outcome (told result) listing.new ≡ bench_of file.now input.now picks.now listing.old }
 {
     if listing.len() < 65536 {
         return BenchAnswer::Refused(Refusal::Buffer);
