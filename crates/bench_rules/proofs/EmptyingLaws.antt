@@ -98,9 +98,9 @@ empties_at_kept c o =
   where
     by : (outer over : Bool) (all : Printed Outputs) → Preserves o.world all.after.world
         → Preserves o.world (cond outer (cond over (silent o) all) (silent o)).after.world
-    by false over all k = unchanged o.world
-    by true true all k = unchanged o.world
-    by true false all k = k
+    by false over _ k = unchanged o.world
+    by true true _ k = unchanged o.world
+    by true false _ k = k
 
 pub empties_from_kept : (c k : ℕ) (o : Outputs) → Preserves o.world (empties_from c k o).after.world
 empties_from_kept c zero o = unchanged o.world

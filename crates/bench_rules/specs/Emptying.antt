@@ -1,6 +1,6 @@
 -- Document 01, "Bench listing": "After each it empties all outputs, channels rising. Lines: `out channel value`, `end channel` (first time)".
 -- Assumes nothing.
-use Rattle.std.specs.Prelude.{Bool, true, false, cond, List, [], ◌∷◌, ℕ, zero, suc, eqb, get_or, set, ℤ}
+use Rattle.std.specs.Prelude.{Bool, true, false, cond, List, [], ◌∷◌, ℕ, zero, suc, eqb, get_or, set}
 use Rattle.network.specs.Rules.{receiver_of, outside}
 use Rattle.lane.specs.State.{World, channel_of}
 use Rattle.lane.specs.Calls.{Told, moved, waiting_empty, waiting_full, ended, accepted, value, the_end, refused, take_of}

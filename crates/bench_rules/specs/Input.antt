@@ -1,6 +1,6 @@
 -- Document 01, "Bench listing": "in.bin (records: channel byte, four-byte value)".
 -- Assumes nothing.
-use Rattle.std.specs.Prelude.{Bool, cond, List, [], ◌∷◌, ℕ, zero, suc, ◌+◌, ◌-◌, ◌*◌, ◌/◌, eqb, ltb, length, get_or, ℤ, pos, negsuc}
+use Rattle.std.specs.Prelude.{cond, List, [], ◌∷◌, ℕ, zero, suc, ◌+◌, ◌-◌, ◌*◌, ◌/◌, eqb, ltb, length, get_or, ℤ, pos, negsuc}
 use Rattle.base.specs.Lists.{table, word_at}
 
 -- how many records there are

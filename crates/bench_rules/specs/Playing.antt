@@ -1,6 +1,6 @@
 -- Document 01, "Bench listing": the lines of a bench on a lane, its input and its pick bytes.
 -- Assumes nothing.
-use Rattle.std.specs.Prelude.{Bool, true, false, cond, List, [], ◌∷◌, ◌++◌, ℕ, zero, suc, eqb, replicate, ℤ, pos}
+use Rattle.std.specs.Prelude.{Bool, false, cond, List, [], ◌∷◌, ◌++◌, ℕ, zero, suc, eqb, replicate, ℤ, pos}
 use Rattle.network.specs.declared.Network.{Network}
 use Rattle.process.specs.declared.Condition.{Condition}
 use Rattle.process.specs.declared.Condition.TheVariants.{Live, Stopped, Faulted}
@@ -16,7 +16,7 @@ use Rattle.listing.specs.Text.{Line, grow, proc}
 use Rattle.bench_rules.specs.Printed.{Printed, printed, silent, then_do}
 use Rattle.bench_rules.specs.Input.{left_at}
 use Rattle.bench_rules.specs.Feeding.{Inputs, inputs, feeds}
-use Rattle.bench_rules.specs.Emptying.{Outputs, outputs, empties}
+use Rattle.bench_rules.specs.Emptying.{outputs, empties}
 
 -- "`grow channel capacity` (the new one)", on the lane after the relief; refusals 13 and 14 print nothing
 abbrev pub grow_lines : relief.Told → Lane → List Line
