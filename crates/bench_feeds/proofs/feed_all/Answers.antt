@@ -1,5 +1,5 @@
 use mathlib.Core.Path.{sym, ◌∙◌}
-use Prim.Native.Nat.{◌+◌, ◌-◌, ◌<◌}
+use Prim.Native.Nat.{◌+◌, ◌<◌}
 use native.Mathlib.Omega.{arith}
 use Rattle.outer_ends.specs.Outer.{Onward}
 use Rattle.bench_feeds.proofs.Inlets.{feeds_begin, index, feeds_end, may_fill, inside_on, idle_on, filled_on, jump_on}
@@ -70,9 +70,9 @@ loop-c-preserved c =
     let h = c.loop-c-test.true in
     jump_on s onward
     (elim c.if-sender-c.branch [
-      then-sender-c+then-not-idle w ↦ rw (w.next-is, w.held-is, w.peak-is, w.closed-is, w.cells-is) (filled_on s p h w.if-sender-c.true w.ended_at-gone.ensures w.fill_in.ensures)
-    | then-sender-c+else-not-idle w ↦ rw (w.next-is, w.held-is, w.peak-is, w.closed-is, w.cells-is) (idle_on s p h w.if-sender-c.true (λ oldest peak. sym (w.idle.ensures oldest peak) ∙ w.if-not-idle.false))
-    | else-sender-c w ↦ rw (w.next-is, w.held-is, w.peak-is, w.closed-is, w.cells-is) (inside_on s p h w.if-sender-c.false)
+      | then-sender-c+then-not-idle w ↦ rw (w.next-is, w.held-is, w.peak-is, w.closed-is, w.cells-is) (filled_on s p h w.if-sender-c.true w.ended_at-gone.ensures w.fill_in.ensures)
+      | then-sender-c+else-not-idle w ↦ rw (w.next-is, w.held-is, w.peak-is, w.closed-is, w.cells-is) (idle_on s p h w.if-sender-c.true (λ oldest peak. sym (w.idle.ensures oldest peak) ∙ w.if-not-idle.false))
+      | else-sender-c w ↦ rw (w.next-is, w.held-is, w.peak-is, w.closed-is, w.cells-is) (inside_on s p h w.if-sender-c.false)
     ])
 
 pub shape_of-cells : goal.shape_of-cells

@@ -1,5 +1,4 @@
 use mathlib.Core.Path.{sym, ◌∙◌}
-use Prim.Native.Nat.{◌-◌}
 use native.Mathlib.Omega.{arith}
 use mir.Facts.{to_z-of_z}
 use mir.Syntax.{w32}
@@ -26,11 +25,11 @@ returns-in-Refused c =
 pub loop-i-preserved : goal.loop-i-preserved
 loop-i-preserved c =
     elim c.if-channel_at-c.branch [
-      then-channel_at-c+in_default w ↦
-        let fed_in : let a = c.args in FedIn a.c (value_at a.input.now c.loop-i.i) a.gone a.capacity.now a.oldest.now c.loop-i.held c.loop-i.peak a.closed.now c.loop-i.cells w.feed_in-answer.result w.feed_in-answer.new.held w.feed_in-answer.new.peak w.feed_in-answer.new.cells = (rw (to_z-of_z {w = w32} (record { sfits = w.value_at-v.type_inv }), w.value_at-v.ensures) at w.feed_in-answer.ensures) in
-        rw (w.held-is, w.peak-is, w.cells-is) (fill_takes c.loop-i.invariant (omega (arith, c.loop-i-test.true)) (sym c.channel_at.ensures ∙ w.if-channel_at-c.true) fed_in w.in_default.is)
-    | else-channel_at-c w ↦
-        rw (w.held-is, w.peak-is, w.cells-is) (fill_passes c.loop-i.invariant (omega (arith, c.loop-i-test.true)) (λ e. w.if-channel_at-c.false (c.channel_at.ensures ∙ e)))
+      | then-channel_at-c+in_default w ↦
+          let fed_in : let a = c.args in FedIn a.c (value_at a.input.now c.loop-i.i) a.gone a.capacity.now a.oldest.now c.loop-i.held c.loop-i.peak a.closed.now c.loop-i.cells w.feed_in-answer.result w.feed_in-answer.new.held w.feed_in-answer.new.peak w.feed_in-answer.new.cells = (rw (to_z-of_z {w = w32} (record { sfits = w.value_at-v.type_inv }), w.value_at-v.ensures) at w.feed_in-answer.ensures) in
+          rw (w.held-is, w.peak-is, w.cells-is) (fill_takes c.loop-i.invariant (omega (arith, c.loop-i-test.true)) (sym c.channel_at.ensures ∙ w.if-channel_at-c.true) fed_in w.in_default.is)
+      | else-channel_at-c w ↦
+          rw (w.held-is, w.peak-is, w.cells-is) (fill_passes c.loop-i.invariant (omega (arith, c.loop-i-test.true)) (λ e. w.if-channel_at-c.false (c.channel_at.ensures ∙ e)))
     ]
 
 pub close_in-requires : goal.close_in-requires
