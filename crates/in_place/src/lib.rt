@@ -1,6 +1,6 @@
 // Pick, feed and take on a lane that the host lends. Document 01: "pick, feed and take also work on a lane lent by the host and changed there".
 // Each is one call by value: the lane is copied out of the reference, and the lane that comes back is stored there. So a refused call leaves it as it came (`pick_refused`, `feed_refused` and `take_refused` of crate `lane`).
-// A reference to a struct is not a covered form, so the three are proved by hand, by walks of their MIR. Rattle code itself calls the by-value ones of `lane_calls`.
+// The check proves the three by itself. Rattle code itself calls the by-value ones of `lane_calls`.
 #![tactic(auto)]
 
 ghost use Rattle.std.specs.Prelude.{◌≡◌};

@@ -1,5 +1,0 @@
-pub mod Cells
-pub mod Lent
-pub mod MutCells
-pub mod MutCellsValue
-pub mod Returned
