@@ -6,13 +6,13 @@ use mathlib.Core.List.{List}
 use Prim.Native.Nat.{ℕ, suc, ◌+◌, ◌-◌, ◌*◌, ◌≤◌}
 use native.Mathlib.Omega.{arith}
 use lib.IntN.{ℤ}
-use lib.ListN.{length, take}
+use lib.ListN.{take}
 use Rattle.network.specs.declared.Network.{Network}
 use Rattle.network.proofs.Passed.{passed}
 use Rattle.lane.specs.State.{world}
 use Rattle.lane.specs.Sound.{sound_of}
 use Rattle.lane.proofs.SoundLaws.{sound_says}
-use Rattle.lane_parts.specs.Parts.{lane_of, Parts, Full, Fixed, Lent}
+use Rattle.lane_parts.specs.Parts.{lane_of, Parts, Fixed, Lent}
 use Rattle.lane_parts.proofs.Lanes.{lane_shaped, sound_counted}
 use Rattle.lent_rounds.specs.Loops.{Rounding, Turns}
 use Rattle.waits.specs.Lent.{Relievable}

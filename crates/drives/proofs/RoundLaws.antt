@@ -25,7 +25,7 @@ use Rattle.lent_rounds.specs.Loops.{round_of, idle, Series, series, pick_rounds}
 use Rattle.drives.specs.declared.Next.{Next}
 use Rattle.drives.specs.Drive as drive
 use Rattle.drives.specs.Drive.{turns, round, by_relief, next_after, left_after, Drive, driven, rounds, drove, result, done}
-use Rattle.drives.specs.Parts.{next_of, round_on, Ruled, end_by}
+use Rattle.drives.specs.Parts.{next_of, Ruled, end_by}
 use Rattle.drives.proofs.Rule.{left_is}
 
 -- ---- the picks of a round
