@@ -1,4 +1,4 @@
-use Prim.Native.Nat.{◌+◌, ◌-◌}
+use Prim.Native.Nat.{◌+◌}
 use native.Mathlib.Omega.{arith}
 use Rattle.outer_ends.specs.Outer.{Onward}
 use Rattle.bench_rules.proofs.Underway.{same_long}
@@ -32,8 +32,8 @@ loop-c-preserved c =
     let e = c.gives.ensures in
     jump_on onward
     (elim c.if-gives.branch [
-      then-gives w ↦ one_drained c.loop-c.invariant c.loop-c-test.true e w.if-gives.true (rw (w.given-is, w.oldest-is, w.held-is, w.listing-is, w.place-is) w.drain-place.ensures)
-    | else-gives w ↦ rw (w.given-is, w.oldest-is, w.held-is, w.listing-is, w.place-is) (one_passed_over c.loop-c.invariant c.loop-c-test.true e w.if-gives.false)
+      | then-gives w ↦ one_drained c.loop-c.invariant c.loop-c-test.true e w.if-gives.true (rw (w.given-is, w.oldest-is, w.held-is, w.listing-is, w.place-is) w.drain-place.ensures)
+      | else-gives w ↦ rw (w.given-is, w.oldest-is, w.held-is, w.listing-is, w.place-is) (one_passed_over c.loop-c.invariant c.loop-c-test.true e w.if-gives.false)
     ])
 
 pub shape_of-listing : goal.shape_of-listing
