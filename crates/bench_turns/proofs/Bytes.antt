@@ -27,7 +27,6 @@ use Rattle.relief.proofs.Enlarged.{relief_kept}
 use Rattle.schedule.specs.Running.{has_grown}
 use Rattle.schedule.specs.Lent.{counted_by, Relieved}
 use Rattle.schedule.proofs.Lent.{with_capacity, seen, shows, relievable}
-use Rattle.runs.specs.Run.{names}
 use Rattle.runs.proofs.Stretches.{one_of}
 use Rattle.listing.specs.Text.{Line, text}
 use Rattle.listing.specs.Written.{written}

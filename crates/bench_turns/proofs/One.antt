@@ -11,7 +11,6 @@ use Rattle.lane_parts.specs.Parts.{lane_of, Parts, parts, Fixed}
 use Rattle.lane_parts.specs.Parts as arrays
 use Rattle.lane_parts.proofs.Lanes.{shown}
 use Rattle.runs.specs.Run.{names}
-use Rattle.bench_rules.specs.Feeding.{feeds}
 use Rattle.bench_rules.specs.Playing.{picks_in, plays_one}
 use Rattle.bench_feeds.specs.Feeds.{inlets, Feeds, Feeding, FedOn, Fed}
 use Rattle.bench_takes.specs.Takes.{outlets, Takes, Taking, Took}

@@ -1,4 +1,4 @@
-use Prim.Native.Nat.{◌-◌, ◌<◌}
+use Prim.Native.Nat.{◌<◌}
 use native.Mathlib.Omega.{arith}
 use Rattle.bench_turns.proofs.Processes.{sixteen_most, none_lined, line_fits, next_lined, all_lined}
 use Rattle.bench_turns.proofs.print_processes.Goals as goal
