@@ -28,8 +28,7 @@ play-place-requires c =
     let fits : length (text (lines_of c.args.net c.args.input.now c.args.picks.now)) ≤ length c.args.listing.now = omega (arith, listing_fits c.args.net c.args.input.now c.args.picks.now c.requires.0 (few_picks c.args.net c.args.input.now c.args.picks.now c.requires.1), c.requires.3) in
     let capacity_long : length c.args.net.capacity ≡ 32 = search rules in
     let sender_long : length c.args.net.sender ≡ 32 = search rules in
-    let receiver_long : length c.args.net.receiver ≡ 32 = search rules in
-    (
+    let receiver_long : length c.args.net.receiver ≡ 32 = search rules in (
       all_named c.args.net c.args.picks.now c.requires.2,
       c.outer_after-inputs.ensures.0,
       c.outer_after-outputs.ensures.0,

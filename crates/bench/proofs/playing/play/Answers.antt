@@ -1,5 +1,4 @@
 use mathlib.Core.Path.{sym, ◌∙◌}
-use Prim.Native.Nat.{◌-◌}
 use native.Mathlib.Omega.{arith}
 use Rattle.bench.proofs.Stages.{no_byte_played, room_for_byte, after_byte, no_byte_left}
 use Rattle.bench.proofs.playing.play.Goals as goal
