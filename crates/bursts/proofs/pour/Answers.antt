@@ -24,7 +24,7 @@ put-h-requires c =
 pub loop-k-preserved-then-not-gone : goal.loop-k-preserved-then-not-gone
 loop-k-preserved-then-not-gone c =
     let roomy : full c.args.gone c.loop-k.h ≡ false = sym c.is_full.ensures ∙ c.if-is_full.false in
-    let f : SFits w32 (get_or c.args.values.now c.loop-k.k (pos 0)) = record { sfits = c.v-1.given } in
+    let f : SFits w32 (get_or c.args.values.now c.loop-k.k (pos 0)) = record { sfits = omega arith } in
     rw (c.put-h.ensures, c.slot.ensures.0, c.counted-n.ensures, to_z-of_z f)
     (flows_put _ _ _ _ _ _ _ _ c.loop-k.invariant c.loop-k-test.true roomy c.if-not-gone.true)
 

@@ -23,5 +23,5 @@ get-left-requires c =
 
 pub returns : goal.returns
 returns c =
-    let f : SFits w32 (get_or c.args.cells.now c.slot.result (pos 0)) = record { sfits = c.v-1.given } in
+    let f : SFits w32 (get_or c.args.cells.now c.slot.result (pos 0)) = record { sfits = omega arith } in
     take_got c.requires.thirty_two _ c.channel_at-h.ensures c.if-h-eq0.false c.get-left.ensures (rw (to_z-of_z f, c.slot.ensures.0))
