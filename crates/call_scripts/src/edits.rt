@@ -4,7 +4,7 @@ use lane::Standing;
 use process::{Channel, Condition};
 
 // What is changed, by its number k, and to what. Each number is within its limit.
-#[derive(Drop)]
+#[derive(Clone, Copy)]
 pub enum Edit {
     Network {
         processes: usize,

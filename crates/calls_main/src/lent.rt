@@ -1,5 +1,5 @@
 // The three calls on a lane that is lent and changed in its place: each lends the lane that it was handed, and hands it back, as the calls by value
-// do. A reference to a struct is not a covered form, so the three are proved by hand, by walks of their MIR.
+// do.
 ghost use Rattle.std.specs.Prelude.{◌≡◌};
 ghost use Rattle.lane.specs.State.{world};
 ghost use Rattle.lane.specs.Calls.{called, pick_of, pick_told, feed_of, feed_told, take_of, take_told};

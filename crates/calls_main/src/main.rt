@@ -20,7 +20,7 @@ use lane::Lane;
 use std::rt::Files;
 
 // A lane, and how many of the cells are lent to a call. The cells stand beside it, as does a second row of cells: what they were before a call.
-#[derive(Drop)]
+#[derive(Clone, Copy)]
 struct Desk {
     lane: Lane,
     room: usize,
