@@ -2,6 +2,7 @@
 -- Assumes nothing.
 use mathlib.Core.Path.{sym, ◌∙◌}
 use borrow.Author.Tests.{eq-eqb, ne_eqb, lt-ltb, le-ltb}
+use lib.ListN.{length}
 use Rattle.bench.specs.Bench.{input_wrong}
 use Rattle.bench.proofs.tests.input_wrong.Goals as goal
 
@@ -33,6 +34,6 @@ returns c =
     rw (
       eq-eqb _ 0 c.if-input-ne0.false,
       le-ltb 20480 _ c.if-input-gt20480.false,
-      le-ltb 3000 _ c.if-picks-gt3000.false,
+      le-ltb 3000 (length c.args.picks.now) c.if-picks-gt3000.false,
       sym c.not_from_outside.ensures ∙ c.in-Good.is,
     )
