@@ -1,6 +1,6 @@
 -- Document 01, "Bench listing": "a refusal is there the negative number."
 -- Assumes nothing.
-use Rattle.std.specs.Prelude.{ℕ, ℤ, pos, neg_ℤ}
+use Rattle.std.specs.Prelude.{ℤ, pos, neg_ℤ}
 use Rattle.bench.specs.Bench.{Told, listed, refused}
 
 abbrev pub number_told : Told → ℤ
