@@ -4,28 +4,20 @@
 use mathlib.Core.Path.{◌≡◌, refl, sym, ap, ◌∙◌}
 use mathlib.Core.Bool.{true, false, false≢true, true≢false}
 use mathlib.Core.Logic.{◌⊎◌, inl, inr}
-use Prim.Native.Nat.{ℕ, zero, suc, ◌*◌, ◌/◌, ◌%◌, ◌<◌}
-use native.Mathlib.Nat.{div-le_self, div-lt_self, div-add-mod, mod-lt}
+use Prim.Native.Nat.{ℕ, zero, suc, ◌*◌, ◌/◌, ◌<◌}
+use native.Mathlib.Nat.{div-le_self, div-lt_self}
 use native.Mathlib.Omega.{arith}
-use lib.IntN.{ℤ, pos, negsuc, pred_ℤ, neg_ℤ, nat_abs, ◌+ℤ◌, ◌-ℤ◌, ◌*ℤ◌, -ℤ_one, neg_ℤ-+ℤ, *ℤ_comm, zero-*ℤ, pred_ℤ-*ℤ}
+use lib.IntN.{ℤ, pos, negsuc, pred_ℤ, neg_ℤ, nat_abs, ◌+ℤ◌, ◌-ℤ◌, ◌*ℤ◌, -ℤ_one, *ℤ_comm, zero-*ℤ, pred_ℤ-*ℤ}
 use lib.Signed.{mag, non_neg, lt_z, mag_rem, quot_z, rem_z}
 use mir.Syntax.{w32}
 use mir.Val.{SFits}
 use borrow.Author.Tests.{ltb-true}
+use Rattle.std.proofs.lemmas.Int.{quot-rem, rem_below}
 use Rattle.arithmetic.specs.Quotient.{Division}
-use Rattle.arithmetic.proofs.Integers.{by_difference, negate_right, negate_both, nat_abs_negate, mag_negate, carry}
-
--- −(m (n / m) + n % m) = −n
-negative : (n m : ℕ) → neg_ℤ (pos (m * (n / m))) +ℤ neg_ℤ (pos (n % m)) ≡ neg_ℤ (pos n)
-negative n m = sym (neg_ℤ-+ℤ (pos (m * (n / m))) (pos (n % m))) ∙ ap (λ (k : ℕ). neg_ℤ (pos k)) (div-add-mod n m)
+use Rattle.arithmetic.proofs.Integers.{by_difference, mag_negate, carry}
 
 recombined : (x y : ℤ) → y *ℤ quot_z x y +ℤ rem_z x y ≡ x
-recombined (pos a) (pos b) = ap pos (div-add-mod a b)
-recombined (pos a) (negsuc b) =
-    ap (λ u. u +ℤ pos (a % suc b)) (negate_both (pos (suc b)) (pos (a / suc b))) ∙ ap pos (div-add-mod a (suc b))
-recombined (negsuc a) (pos b) =
-    ap (λ u. u +ℤ neg_ℤ (pos (suc a % b))) (negate_right (pos b) (pos (suc a / b))) ∙ negative (suc a) b
-recombined (negsuc a) (negsuc b) = negative (suc a) (suc b)
+recombined x y = ap (λ u. u +ℤ rem_z x y) (*ℤ_comm y (quot_z x y)) ∙ quot-rem x y
 
 positive : (y : ℤ) → (y ≡ pos 0 → ⊥) → 0 < nat_abs y
 positive (pos zero) n = absurd (n refl)
@@ -33,8 +25,7 @@ positive (pos (suc k)) n = omega arith
 positive (negsuc k) n = omega arith
 
 below : (x y : ℤ) → (y ≡ pos 0 → ⊥) → nat_abs (rem_z x y) < nat_abs y
-below (pos a) y n = mod-lt a (positive y n)
-below (negsuc a) y n = rw (nat_abs_negate (suc a % nat_abs y)) (mod-lt (suc a) (positive y n))
+below x y n = rem_below x y (positive y n)
 
 pub cut_fits : (x y : ℤ) → SFits w32 x → (x ≡ negsuc 2147483647 → y ≡ negsuc 0 → ⊥) → SFits w32 (quot_z x y)
 cut_fits x y h n = record { sfits = go x y h.sfits n }

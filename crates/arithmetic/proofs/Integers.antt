@@ -7,7 +7,7 @@ use Prim.Native.Nat.{ℕ, zero, suc, ◌+◌, ◌-◌, ◌*◌, ◌/◌, ◌%◌
 use native.Mathlib.Nat.{div-add-mod, mod-lt, mul-suc, zero-lt-suc}
 use lib.Dec.{ltb}
 use native.Mathlib.Omega.{arith}
-use lib.IntN.{ℤ, pos, negsuc, suc_ℤ, pred_ℤ, neg_ℤ, nat_abs, sub_ℕ, ◌+ℤ◌, ◌-ℤ◌, ◌*ℤ◌, +ℤ_idr, +ℤ_comm, +ℤ_assoc, +ℤ-suc_ℤ, +ℤ-pred_ℤ, +ℤ-neg_ℤ_cancel, -ℤ-+ℤ_cancel, zero-*ℤ, *ℤ_comm, suc_ℤ-*ℤ, pred_ℤ-*ℤ, neg_ℤ-neg_ℤ}
+use lib.IntN.{ℤ, pos, negsuc, suc_ℤ, pred_ℤ, neg_ℤ, nat_abs, sub_ℕ, ◌+ℤ◌, ◌-ℤ◌, ◌*ℤ◌, +ℤ_idr, +ℤ_comm, +ℤ_assoc, +ℤ-suc_ℤ, +ℤ-pred_ℤ, +ℤ-neg_ℤ_cancel, -ℤ-+ℤ_cancel, zero-*ℤ, suc_ℤ-*ℤ, pred_ℤ-*ℤ, neg_ℤ-neg_ℤ}
 use lib.Signed.{mag, shr_z}
 use borrow.Author.Tests.{ltb-true, ltb-false}
 
@@ -35,12 +35,6 @@ negate_product (pos (suc n)) (pos k) = refl
 negate_product (pos (suc n)) (negsuc k) = sym (neg_ℤ-neg_ℤ _)
 negate_product (negsuc n) (pos k) = sym (neg_ℤ-neg_ℤ _)
 negate_product (negsuc n) (negsuc k) = refl
-
-pub negate_right : (x y : ℤ) → x *ℤ neg_ℤ y ≡ neg_ℤ (x *ℤ y)
-negate_right x y = *ℤ_comm x (neg_ℤ y) ∙ negate_product y x ∙ ap neg_ℤ (*ℤ_comm y x)
-
-pub negate_both : (x y : ℤ) → neg_ℤ x *ℤ neg_ℤ y ≡ x *ℤ y
-negate_both x y = negate_product x (neg_ℤ y) ∙ ap neg_ℤ (negate_right x y) ∙ neg_ℤ-neg_ℤ (x *ℤ y)
 
 pub nat_abs_negate : (n : ℕ) → nat_abs (neg_ℤ (pos n)) ≡ n
 nat_abs_negate zero = refl

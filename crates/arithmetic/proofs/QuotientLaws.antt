@@ -11,7 +11,8 @@ use lib.IntN.{ℤ, pos, negsuc, neg_ℤ, nat_abs, pos-ne-negsuc, ◌+ℤ◌, ◌
 use lib.Signed.{mag, non_neg, nat_abs-le, shr_z}
 use mir.Syntax.{w32}
 use mir.Val.{SFits}
-use Rattle.arithmetic.specs.Wrap.{residue, centred, wrap}
+use Rattle.std.proofs.lemmas.Int.{unsigned_abs-mul}
+use Rattle.arithmetic.specs.Wrap.{wrap}
 use Rattle.arithmetic.specs.Quotient.{Quotient, value, faults, unless_zero, floor_of, quotient_of, remainder_of, Division}
 use Rattle.arithmetic.proofs.Integers.{by_difference, nat_abs_negate, negate_product, distribute, exchange, rest_of, left_by, left_below, down_whole}
 use Rattle.arithmetic.proofs.WrapLaws.{wrap_same}
@@ -41,12 +42,6 @@ floored x (negsuc c) n =
     }
 
 -- ---- and the only one: two divisions differ by a multiple of y that is smaller than y
-nat_abs_product : (x y : ℤ) → nat_abs (x *ℤ y) ≡ nat_abs x * nat_abs y
-nat_abs_product (pos a) (pos b) = refl
-nat_abs_product (pos a) (negsuc b) = nat_abs_negate (a * suc b)
-nat_abs_product (negsuc a) (pos b) = nat_abs_negate (suc a * b)
-nat_abs_product (negsuc a) (negsuc b) = refl
-
 -- a remainder that is not negative beside one that is: it is zero
 opposed : (a b : ℕ) (t : Bool) → (pos a ≡ pos 0) ⊎ (true ≡ t) → (negsuc b ≡ pos 0) ⊎ (false ≡ t) → a ≡ 0
 opposed a b t (inl e) s = ap nat_abs e
@@ -86,7 +81,7 @@ module _ {x y q r p s : ℤ} (d : Division x y q r) (e : Division x y p s) where
 
   pub division_quotient : q ≡ p
   division_quotient =
-      let h : nat_abs y * nat_abs (q -ℤ p) < nat_abs y = rw (← nat_abs_product y (q -ℤ p), apart) (near (nat_abs y) (non_neg y) r s d.small e.small d.sign e.sign) in
+      let h : nat_abs y * nat_abs (q -ℤ p) < nat_abs y = rw (← unsigned_abs-mul y (q -ℤ p), apart) (near (nat_abs y) (non_neg y) r s d.small e.small d.sign e.sign) in
       equal q p (zero_only (q -ℤ p) (none (nat_abs y) (nat_abs (q -ℤ p)) h))
 
   pub division_remainder : r ≡ s
@@ -128,10 +123,14 @@ pub remainder_zero : (x : ℤ) → remainder_of x (pos 0) ≡ faults
 unfolding remainder_of
 remainder_zero x = refl
 
--- the least number by −1
-pub quotient_least : quotient_of (negsuc 2147483647) (negsuc 0) ≡ value (negsuc 2147483647)
-unfolding quotient_of floor_of wrap residue centred
-quotient_least = refl
+-- by −1 the quotient is the dividend negated
+by_one : (z : ℤ) → shr_z z 1 ≡ z
+by_one (pos n) = ap pos (omega arith)
+by_one (negsuc n) = ap negsuc (omega arith)
+
+pub quotient_one : (x : ℤ) → quotient_of x (negsuc 0) ≡ value (wrap (neg_ℤ x))
+unfolding quotient_of floor_of
+quotient_one x = ap (λ u. value (wrap u)) (by_one (neg_ℤ x))
 
 unless : (y : ℤ) (d : Quotient) → (y ≡ pos 0 → ⊥) → unless_zero y d ≡ d
 unless (pos zero) d n = absurd (n refl)

@@ -7,7 +7,9 @@ use native.Mathlib.Decide.{dec_lt}
 use lib.IntN.{ℤ, pos, negsuc, suc_ℤ, pred_ℤ, neg_ℤ, ◌+ℤ◌, ◌-ℤ◌, ◌*ℤ◌, +ℤ_idr, +ℤ_comm, +ℤ_assoc, -ℤ-+ℤ_cancel, *ℤ_comm, suc_ℤ-*ℤ, pred_ℤ-*ℤ}
 use lib.Signed.{mag, shr_z}
 use mir.Syntax.{w32}
-use mir.Val.{SFits}
+use mir.Val.{SFits, to_z}
+use mir.Facts.{to_z_pos}
+use Rattle.std.specs.Int.{int_wrap}
 use borrow.Author.Tests.{lt-ltb, le-ltb}
 use Rattle.arithmetic.specs.Wrap.{residue, centred, wrap}
 use Rattle.arithmetic.proofs.Integers.{induct, by_difference, distribute, associate, carry, exchange, left_by, down_whole}
@@ -141,3 +143,15 @@ negated y = ap wrap (times (wrap y)) ∙ wrap_product_left y (negsuc zero) ∙ a
 pub wrap_difference : (x y : ℤ) → wrap (wrap x -ℤ wrap y) ≡ wrap (x -ℤ y)
 wrap_difference x y =
     wrap_sum_left x (neg_ℤ (wrap y)) ∙ sym (wrap_sum_right x (neg_ℤ (wrap y))) ∙ ap (λ u. wrap (x +ℤ u)) (negated y) ∙ wrap_sum_right x (neg_ℤ y)
+
+-- ---- the library's word for it: the low 32 bits, read as signed
+read : (r : ℕ) → r < 4294967296 → Dec (r < 2147483648) → to_z w32 r ≡ centred r
+read r h (yes l) = to_z_pos w32 l ∙ sym (centred_low r l)
+read r h (no l) =
+    let e : to_z w32 r ≡ negsuc (4294967295 - r) = rw (le-ltb r 2147483648 (omega arith)) (ap negsuc (omega arith)) in
+    e ∙ sym (centred_high r (omega arith) h)
+
+pub wrap_is : (z : ℤ) → int_wrap w32 z ≡ wrap z
+unfolding int_wrap wrap residue
+wrap_is (pos n) = read (n % 4294967296) (omega arith) (dec_lt _ _)
+wrap_is (negsuc n) = read (4294967295 - n % 4294967296) (omega arith) (dec_lt _ _)

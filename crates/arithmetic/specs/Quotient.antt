@@ -2,8 +2,8 @@
 -- Assumes nothing.
 use Rattle.std.specs.Prelude.{◌≡◌, ◌⊎◌, zero, suc, ◌<◌, ℤ, pos, negsuc, neg_ℤ, nat_abs, ◌+ℤ◌, ◌-ℤ◌, ◌*ℤ◌}
 use Rattle.std.specs.Int.Signed.{non_neg, shr_z}
-use Rattle.arithmetic.specs.declared.Divided.{Divided}
-use Rattle.arithmetic.specs.declared.Divided.TheVariants.{By, Zero}
+use Rattle.std.specs.declared.option.Option.{Option}
+use Rattle.std.specs.declared.option.Option.TheVariants.{None, Some}
 use Rattle.arithmetic.specs.Wrap.{wrap}
 
 -- what divide and remainder come to, in document 01's words: a number, or a fault
@@ -12,9 +12,9 @@ pub data Quotient : Type 0 where
   faults : Quotient
 
 -- the answer of the code, in these terms
-abbrev pub told : Divided → Quotient
-told (By v) = value v
-told Zero = faults
+abbrev pub told : Option ℤ → Quotient
+told (Some v) = value v
+told None = faults
 
 -- "A zero divisor faults."
 abbrev pub unless_zero : ℤ → Quotient → Quotient

@@ -1,12 +1,11 @@
 -- Tests that pass: together; both where their conjunction does, neither where their disjunction does not; a number between two bounds; a verdict.
 -- Assumes nothing.
 use mathlib.Core.Path.{◌≡◌, refl, sym, ap, ◌∙◌}
-use mathlib.Core.Bool.{Bool, true, false, ◌&&◌, ◌||◌, false≢true, true≢false}
+use mathlib.Core.Bool.{Bool, true, false, and-true, and-false, ◌&&◌, ◌||◌, false≢true, true≢false}
 use Prim.Native.Nat.{ℕ, ◌≤◌}
 use borrow.Author.Tests.{leb-true, le-leb}
-use Rattle.base.specs.declared.Verdict.{Verdict}
-use Rattle.base.specs.declared.Verdict.TheVariants.{Good, Bad}
-use Rattle.base.specs.Tests.{is_good, between}
+use Rattle.std.specs.declared.result.Result.TheVariants.{Ok, Err}
+use Rattle.base.specs.Tests.{Verdict, is_good, between}
 
 -- tests that pass together are equal
 pub iff : (a b : Bool) → (a ≡ true → b ≡ true) → (b ≡ true → a ≡ true) → a ≡ b
@@ -29,6 +28,9 @@ pub neither : (a b : Bool) → (a || b) ≡ false → (a ≡ false) × (b ≡ fa
 neither true b e = absurd (true≢false e)
 neither false b e = (refl, e)
 
+-- what the answer of tests that are made in order needs at each of its goals
+pub ruleset in_all = (and-false, and-true)
+
 pub or_false : (a : Bool) → (a || false) ≡ a
 or_false true = refl
 or_false false = refl
@@ -41,11 +43,11 @@ pub is_false : (b : Bool) → (b ≡ true → ⊥) → b ≡ false
 is_false true n = absurd (n refl)
 is_false false n = refl
 
-pub good_is : (v : Verdict) → is_good v ≡ true → v ≡ Good
-good_is Good e = refl
-good_is (Bad k) e = absurd (false≢true e)
+pub good_is : (v : Verdict) → is_good v ≡ true → v ≡ Ok tt
+good_is (Ok x) e = refl
+good_is (Err k) e = absurd (false≢true e)
 
-pub bad_not_good : (v : Verdict) (k : ℕ) → v ≡ Bad k → v ≡ Good → ⊥
+pub bad_not_good : (v : Verdict) (k : ℕ) → v ≡ Err k → v ≡ Ok tt → ⊥
 bad_not_good v k p q = false≢true (sym (ap is_good p) ∙ ap is_good q)
 
 pub between_true : (low x high : ℕ) → between low x high ≡ true → (low ≤ x) × (x ≤ high)

@@ -1,3 +1,3 @@
 pub mod Kept
-pub mod Stages
 pub mod Short
+pub mod Stages

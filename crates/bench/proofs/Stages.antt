@@ -1,110 +1,81 @@
--- The lines of a bench in stages: each stage writes where the last one ended, and all of them together are the rule's lines: of all pick bytes, and of the
--- whole listing. The pick bytes are played on lent arrays, whatever network they fit; the listing is that of one network, from a fresh lane on.
+-- The lines of a bench in stages: all pick bytes, one after the other, and then the processes.
 -- Assumes nothing.
 use mathlib.Core.Path.{◌≡◌, refl, sym, ap, subst, ◌∙◌}
+use mathlib.Core.Bool.{Bool, true, false, cond}
 use mathlib.Core.List.{List, append-nil}
-use mathlib.Core.Bool.{true, false}
 use Prim.Native.Nat.{ℕ, ◌+◌, ◌≤◌, ◌<◌}
 use native.Mathlib.Numerals.{add-one}
 use native.Mathlib.Omega.{arith}
-use lib.IntN.{pos}
-use lib.ListN.{length, get_or, drop, replicate, drop_of_length-le, length-replicate}
+use lib.Dec.{eqb}
+use lib.ListN.{length, get_or, drop, replicate, drop_of_length-le}
 use lib.Seq.{drop-cons}
 use Rattle.network.specs.declared.Network.{Network}
 use Rattle.network.specs.Rules.{passes}
-use Rattle.lane.specs.declared.Standing.{Standing}
 use Rattle.lane.specs.declared.Lane.{Lane}
-use Rattle.lane.specs.State.{World, world}
-use Rattle.lane.specs.Sound.{sound_of}
-use Rattle.lane.proofs.SoundLaws.{fresh_sound}
-use Rattle.lane_parts.specs.Parts.{lane_of, Fixed}
-use Rattle.lane_parts.proofs.Lanes.{stands, fixed_of, lent_of}
-use Rattle.lane_parts.proofs.Fresh.{fresh_parts, fresh_full, fresh_is}
-use Rattle.schedule.proofs.Lent.{seen, shows}
+use Rattle.lane.specs.State.{World}
+use Rattle.lane.specs.Pick.{pick_in}
+use Rattle.lane.proofs.PickLaws.{pick_network}
+use Rattle.relief.proofs.Enlarged.{relief_kept}
+use Rattle.schedule.specs.Running.{relieves}
+use Rattle.listing.specs.declared.Listing.{Listing}
 use Rattle.listing.specs.Text.{Line, text}
+use Rattle.listing.specs.Listing.{HasRoom, Wrote}
 use Rattle.listing.specs.Written.{written}
 use Rattle.bench_rules.specs.Printed.{Printed, printed, silent, then_do}
-use Rattle.bench_rules.specs.Playing.{Bench, plays_one, plays, proc_lines, start, lines_of}
-use Rattle.bench_rules.proofs.Underway.{Underway, begun, room_for, more, finished}
-use Rattle.bench_turns.specs.Turns.{Turn, turn, Full, Of, held_by, Room, Done, Ready, Did}
-use Rattle.bench_turns.specs.Processes.{Stands, Printable, PrintedAll}
+use Rattle.bench_rules.specs.Feeding.{inputs, feeds}
+use Rattle.bench_rules.specs.Emptying.{outputs}
+use Rattle.bench_rules.specs.Playing.{relieves_in, picks_in, Bench, plays_one, plays, proc_lines, start, lines_of}
+use Rattle.bench_rules.specs.Holding.{Room, Done}
+use Rattle.bench_rules.proofs.Fed.{feeds_kept}
+use Rattle.bench_rules.proofs.EmptyingLaws.{empties_kept}
+use Rattle.bench_rules.proofs.Fits.{listing_fits}
+use Rattle.bench_rules.proofs.Underway.{Underway, begun, room_for, more, done, finished}
+use Rattle.bench.specs.Bench.{input_wrong}
+use Rattle.bench.proofs.Kept.{few_picks}
 
--- ---- all pick bytes
+-- ---- a pick byte keeps the network
+relieves_network : (w : World) → (relieves_in w).after.lane.network ≡ w.lane.network
+unfolding relieves_in relieves
+relieves_network w = (relief_kept w (replicate 16 0)).network
+
+picks_network : (p : ℕ) (w : World) → (picks_in p w).after.lane.network ≡ w.lane.network
+picks_network p w = at (eqb p 255)
+  where
+    at : (t : Bool) → (cond t (relieves_in w) (silent (pick_in p w))).after.lane.network ≡ w.lane.network
+    at true = relieves_network w
+    at false = pick_network p w
+
+plays_one_network : (p : ℕ) (b : Bench) → (plays_one p b).after.world.lane.network ≡ b.world.lane.network
+unfolding plays_one
+plays_one_network p b =
+    let i = feeds (inputs b.left b.world) in
+    (empties_kept (outputs (picks_in p i.world).after b.given)).network ∙ picks_network p i.world ∙ (feeds_kept (inputs b.left b.world)).network
+
+-- ---- all pick bytes: of those from b₀ on the first i are played
 plays_next : (ps : List ℕ) (i : ℕ) (b : Bench) → i < length ps → plays (drop i ps) b ≡ then_do (plays_one (get_or ps i 0) b) (plays (drop (i + 1) ps))
 plays_next ps i b h = rw (add-one i, drop-cons ps i 0 h)
 
-module _ (picks : List ℕ) (used : ℕ) (f : Fixed) (input : List ℕ) (t₀ : Turn) where
-  -- of the bytes from b₀ on the first i are played, with their lines in the buffer, and have led to t, on a lane of network n that is still sound
-  pub record PartwayOn (b₀ : Bench) (i : ℕ) (t : Turn) (n : Network) : Type 0 where
-    pub accepted : ℕ
-    pub of : Of used f t n accepted
-    pub underway : Underway (plays picks b₀) t₀.place t₀.listing (plays (drop i picks)) (held_by n accepted input t) t.place t.listing
+pub record Played (picks : List ℕ) (b₀ : Bench) (l₀ : Listing) (i : ℕ) (b : Bench) (l : Listing) : Type 0 where
+  pub underway : Underway (plays picks b₀) l₀ (plays (drop i picks)) b l
+  pub network : b.world.lane.network ≡ b₀.world.lane.network
 
-  -- what the loop over the pick bytes keeps: the same for each network that the arrays fit at entry, and any count of accepted calls
-  pub record Partway (i : ℕ) (t : Turn) : Type 0 where
-    pub full : Full t
-    pub long : length t.listing ≡ length t₀.listing
-    pub each : (n : Network) (a : ℕ) → Of used f t₀ n a → Room t₀ (plays picks (held_by n a input t₀)) → PartwayOn (held_by n a input t₀) i t n
+pub none_played : (picks : List ℕ) (b : Bench) {l : Listing} → Room (plays picks b) l → Played picks b l 0 b l
+none_played picks b {l} room = record { underway = begun (plays picks) b l room; network = refl }
 
-  -- no byte is played
-  pub no_byte_played : Full t₀ → Partway 0 t₀
-  no_byte_played full =
-      record {
-        full = full;
-        long = refl;
-        each = λ n a o m. record { accepted = a; of = o; underway = begun (plays picks) (held_by n a input t₀) t₀.place t₀.listing m };
-      }
-
-module _ {picks : List ℕ} {used : ℕ} {f : Fixed} {input : List ℕ} {t₀ : Turn} {i : ℕ} {t : Turn} (s : Partway picks used f input t₀ i t) where
+module _ {picks : List ℕ} {b₀ b : Bench} {l₀ l : Listing} {i : ℕ} (s : Played picks b₀ l₀ i b l) where
   module _ (h : i < length picks) where
-    byte_room : {n : Network} {b₀ : Bench} (q : PartwayOn picks used f input t₀ b₀ i t n) → Room t (plays_one (get_or picks i 0) (held_by n q.accepted input t))
-    byte_room {n} q =
-        let b : Bench = held_by n q.accepted input t in
-        room_for q.underway (plays_one (get_or picks i 0) b) (plays (drop (i + 1) picks)) (plays_next picks i b h)
+    pub room_for_byte : Room (plays_one (get_or picks i 0) b) l
+    room_for_byte = room_for s.underway (plays_one (get_or picks i 0) b) (plays (drop (i + 1) picks)) (plays_next picks i b h)
 
-    pub room_for_byte : Ready (plays picks) used f input t₀ → Ready (plays_one (get_or picks i 0)) used f input t
-    room_for_byte r =
-        let q = s.each r.network r.accepted r.of r.room in
+    pub one_played : {b' : Bench} {l' : Listing} → Done (plays_one (get_or picks i 0) b) l b' l' → Played picks b₀ l₀ (i + 1) b' l'
+    one_played d =
         record {
-          full = s.full;
-          sending = r.sending;
-          receiving = r.receiving;
-          network = r.network;
-          accepted = q.accepted;
-          of = q.of;
-          room = byte_room q;
+          underway = more s.underway (plays_one (get_or picks i 0) b) (plays (drop (i + 1) picks)) (plays_next picks i b h) d.after d.wrote;
+          network = ap (λ (x : Bench). x.world.lane.network) d.after ∙ plays_one_network (get_or picks i 0) b ∙ s.network;
         }
 
-    pub after_byte : {t' : Turn} → Did (plays_one (get_or picks i 0)) used f input t t' → Partway picks used f input t₀ (i + 1) t'
-    after_byte d =
-        record {
-          full = d.full;
-          long = d.long ∙ s.long;
-          each =
-              λ n a o m.
-              let q = s.each n a o m in
-              let b : Bench = held_by n q.accepted input t in
-              let e = d.done n q.accepted q.of (byte_room q) in
-              record {
-                accepted = e.accepted;
-                of = record { lent = o.lent; all = o.all; sound = e.sound };
-                underway = more q.underway (plays_one (get_or picks i 0) b) (plays (drop (i + 1) picks)) (plays_next picks i b h) e.after e.place e.listing;
-              };
-        }
-
-  -- no byte left
-  pub no_byte_left : length picks ≤ i → Did (plays picks) used f input t₀ t
-  no_byte_left h =
-      record {
-        full = s.full;
-        long = s.long;
-        done =
-            λ n a o m.
-            let q = s.each n a o m in
-            let b : Bench = held_by n q.accepted input t in
-            let e = finished q.underway b (ap (λ (ps : List ℕ). plays ps b) (drop_of_length-le picks h)) in
-            record { accepted = q.accepted; sound = q.of.sound; after = e.0; place = e.1; listing = e.2 };
-      }
+  pub all_played : length picks ≤ i → Done (plays picks b₀) l₀ b l
+  all_played h = done s.underway (ap (λ (ps : List ℕ). plays ps b) (drop_of_length-le picks h))
 
 -- ---- the whole listing: the lines of the pick bytes, then those of the processes
 then_silent : {A : Type 0} (d : Printed A) → d ≡ then_do d silent
@@ -116,100 +87,28 @@ last b = printed (proc_lines b.world.lane 0 b.world.lane.network.processes) b
 abbrev whole : List ℕ → Bench → Printed Bench
 whole picks b = then_do (plays picks b) last
 
-module _ (n : Network) (input picks : List ℕ) (entry : List ℕ) (room : length (text (lines_of n input picks)) ≤ length entry) where
-  first : Underway (whole picks (start n input)) 0 entry (whole picks) (start n input) 0 entry
+module _ (n : Network) (input picks : List ℕ) (pass : passes n ≡ true) (right : input_wrong n input picks ≡ false)
+    {l₀ : Listing} (first : l₀.at ≡ 0) (long : 65536 ≤ length l₀.buffer.now) {b₀ : Bench} (fresh : b₀ ≡ start n input) where
+  begins : Underway (whole picks b₀) l₀ (whole picks) b₀ l₀
   unfolding lines_of
-  first = begun (whole picks) (start n input) 0 entry (omega (arith, room))
+  begins =
+      let few : length (text (lines_of n input picks)) ≤ 57784 = listing_fits n input picks pass (few_picks n input picks right) in
+      begun (whole picks) b₀ l₀ (rw fresh (record { fits = omega (arith, few, first, long) }))
 
-  room_for_plays : 0 + length (text (plays picks (start n input)).lines) ≤ length entry
-  room_for_plays = room_for first (plays picks (start n input)) last refl
+  pub room_for_plays : Room (plays picks b₀) l₀
+  room_for_plays = room_for begins (plays picks b₀) last refl
 
-  module _ {w : World} {place : ℕ} {listing : List ℕ} (played : w ≡ (plays picks (start n input)).after.world)
-      (there : place ≡ 0 + length (text (plays picks (start n input)).lines)) (here : listing ≡ written 0 (text (plays picks (start n input)).lines) entry) where
-    after_plays : Underway (whole picks (start n input)) 0 entry last (plays picks (start n input)).after place listing
-    after_plays = more first (plays picks (start n input)) last refl refl there here
+  module _ {b : Bench} {l : Listing} (d : Done (plays picks b₀) l₀ b l) where
+    after_plays : Underway (whole picks b₀) l₀ last b l
+    after_plays = more begins (plays picks b₀) last refl d.after d.wrote
 
-    abbrev procs : List Line
-    procs = proc_lines w.lane 0 w.lane.network.processes
+    pub room_for_processes : HasRoom (text (proc_lines b.world.lane 0 b.world.lane.network.processes)) l
+    room_for_processes = room_for after_plays (last b) silent (then_silent (last b))
 
-    procs_are : procs ≡ (last (plays picks (start n input)).after).lines
-    procs_are = rw played
-
-    room_for_procs : place + length (text procs) ≤ length listing
-    room_for_procs = rw procs_are (room_for after_plays (last (plays picks (start n input)).after) silent (then_silent _))
-
-    after_procs : {end : ℕ} {listing' : List ℕ} → end ≡ place + length (text procs) → listing' ≡ written place (text procs) listing
-        → (end ≡ length (text (lines_of n input picks))) × (listing' ≡ written 0 (text (lines_of n input picks)) entry)
+    pub listed : {l' : Listing} → Wrote (text (proc_lines b.world.lane 0 b.world.lane.network.processes)) l l'
+        → (l'.at ≡ length (text (lines_of n input picks))) × (l'.buffer.now ≡ written 0 (text (lines_of n input picks)) l₀.buffer.now) × (l'.buffer.ghost_name ≡ l₀.buffer.ghost_name)
     unfolding lines_of
-    after_procs e q =
-        let u = more after_plays (last (plays picks (start n input)).after) silent (then_silent _) refl (e ∙ ap (λ (ls : List Line). place + length (text ls)) procs_are)
-        (q ∙ ap (λ (ls : List Line). written place (text ls) listing) procs_are) in
-        let f = finished u (plays picks (start n input)).after refl in
-        (omega (arith, f.1), f.2)
-
--- ---- the listing of network n, on arrays of its own
--- the arrays at the start
-abbrev pub first_turn : Network → List ℕ → Turn
-first_turn n listing = turn (fresh_parts n) (replicate 8192 (pos 0)) (replicate 32 0) (replicate 32 false) listing 0
-
-module _ (n : Network) (long : length n.capacity ≡ 32) (input picks : List ℕ) (entry : List ℕ) (room : length (text (lines_of n input picks)) ≤ length entry) where
-  -- they are the rule's start
-  start_is : held_by n 0 input (first_turn n entry) ≡ start n input
-  unfolding start
-  start_is = rw (fresh_is n long)
-
-  module _ (pass : passes n ≡ true) where
-    first_of : Of n.processes (fixed_of n) (first_turn n entry) n 0
-    first_of = record { lent = lent_of n; all = refl; sound = subst (λ (l : Lane). sound_of l ≡ true) (sym (fresh_is n long)) (fresh_sound n pass) }
-
-    first_room : Room (first_turn n entry) (plays picks (held_by n 0 input (first_turn n entry)))
-    first_room = subst (λ (b : Bench). Room (first_turn n entry) (plays picks b)) (sym start_is) (room_for_plays n input picks entry room)
-
-    pub first_ready : length n.sender ≡ 32 → length n.receiver ≡ 32 → Ready (plays picks) n.processes (fixed_of n) input (first_turn n entry)
-    first_ready sending receiving =
-        record {
-          full = record { arrays = fresh_full n long; long = length-replicate 8192 (pos 0); records = refl; ends = refl };
-          sending = sending;
-          receiving = receiving;
-          network = n;
-          accepted = 0;
-          of = first_of;
-          room = first_room;
-        }
-
-    -- the pick bytes are played
-    module _ {t : Turn} (d : Did (plays picks) n.processes (fixed_of n) input (first_turn n entry) t) where
-      played : Done (plays picks (start n input)) input (first_turn n entry) t n
-      played = subst (λ (b : Bench). Done (plays picks b) input (first_turn n entry) t n) start_is (d.done n 0 first_of first_room)
-
-      abbrev lane : Lane
-      lane = lane_of n played.accepted t.parts
-
-      world_is : world lane t.cells ≡ (plays picks (start n input)).after.world
-      world_is = ap (λ (b : Bench). b.world) played.after
-
-      lane_stands : Stands n.processes (seen (fixed_of n) t.parts) t.parts.moves t.listing t.place (lane_of n played.accepted t.parts)
-      lane_stands =
-          record {
-            shows = shows n played.accepted d.full.arrays (lent_of n);
-            counts = λ p. ap (λ (s : Standing). s.moves) (stands n played.accepted d.full.arrays p);
-            sound = played.sound;
-            all = refl;
-            room = room_for_procs n input picks entry room world_is played.place played.listing;
-          }
-
-      -- the lines of the processes have room
-      pub printable : Printable n.processes (seen (fixed_of n) t.parts) t.parts.moves t.listing t.place
-      printable =
-          record {
-            long = record { condition = d.full.arrays.sixteen.condition; thirty_two = d.full.arrays.thirty_two };
-            lane = lane;
-            stands = lane_stands;
-          }
-
-      -- and with them the listing is the rule's
-      pub listed : {r : ℕ} {listing : List ℕ} → PrintedAll n.processes (seen (fixed_of n) t.parts) t.parts.moves t.listing t.place r listing
-          → (r ≡ length (text (lines_of n input picks))) × (listing ≡ written 0 (text (lines_of n input picks)) entry)
-      listed p =
-          let q = p.lines lane lane_stands in
-          after_procs n input picks entry room world_is played.place played.listing q.0 q.1
+    listed {l'} w =
+        let u = more after_plays (last b) silent (then_silent (last b)) refl w in
+        let f : Wrote (text (lines_of n input picks)) l₀ l' = rw fresh at ((finished u b refl).1) in
+        (omega (arith, f.at, first), f.text ∙ ap (λ (k : ℕ). written k (text (lines_of n input picks)) l₀.buffer.now) first, f.same_buffer)

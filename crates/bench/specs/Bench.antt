@@ -1,6 +1,9 @@
 -- Document 01, "Bench listing": what the bench answers, and what it leaves of the lent buffer.
 -- Assumes nothing.
 use Rattle.std.specs.Prelude.{Bool, cond, not, ◌&&◌, ◌||◌, List, ℕ, ◌%◌, eqb, ltb, length}
+use Rattle.std.specs.Prelude.{Ok, Err}
+use Rattle.std.specs.declared.result.Result as answer
+use Rattle.base.specs.declared.Refusal.{Refusal}
 use Rattle.base.specs.Refusals.{number_of}
 use Rattle.base.specs.Tests.{first_bad, is_good}
 use Rattle.network.specs.declared.Network.{Network}
@@ -11,17 +14,15 @@ use Rattle.listing.specs.Text.{text}
 use Rattle.listing.specs.Written.{written}
 use Rattle.bench_rules.specs.Input.{records, channel_at}
 use Rattle.bench_rules.specs.Playing.{lines_of}
-use Rattle.bench.specs.declared.BenchAnswer.{BenchAnswer}
-use Rattle.bench.specs.declared.BenchAnswer.TheVariants.{Listed, Refused}
 
 pub data Told : Type 0 where
   listed : ℕ → Told
   refused : ℕ → Told
 
 -- the answer of the code, in these terms
-abbrev pub told : BenchAnswer → Told
-told (Listed n) = listed n
-told (Refused r) = refused (number_of r)
+abbrev pub told : answer.Result ℕ Refusal → Told
+told (Ok n) = listed n
+told (Err r) = refused (number_of r)
 
 -- the answer, and the listing buffer
 pub record Result : Type 0 where

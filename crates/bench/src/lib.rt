@@ -9,42 +9,32 @@ ghost use Rattle.network.specs.Rules.{passes};
 ghost use Rattle.bench.specs.Bench.{told, result as outcome, played, bench_of};
 
 use base::Refusal;
-use lane_file::Answer;
 use network::Network;
 
-// The listing's length, or a refusal.
-#[derive(Drop)]
-pub enum BenchAnswer {
-    Listed(usize),
-    Refused(Refusal),
-}
-
 // An accepted file's network: 17, 8, else the listing.
-fn play(net: Network, input: &[u8], picks: &[u8], listing: &mut [u8]) -> BenchAnswer
-    requires { (passes net ≡ true) × (65536 ≤ length listing.old) }
-    ensures { outcome (told result) listing.new ≡ played net input.now picks.now listing.old }
+fn play(network: &Network, input: &[u8], picks: &[u8], listing: &mut [u8]) -> Result<usize, Refusal>
+    requires { (passes network.now ≡ true) × (65536 ≤ length listing.old) }
+    ensures { outcome (told result) listing.new ≡ played network.now input.now picks.now listing.old }
 {
-    if tests::input_wrong(net, input, picks) {
-        return BenchAnswer::Refused(Refusal::Input);
+    if tests::input_wrong(network, input, picks) {
+        return Err(Refusal::Input);
     }
-    if !runs::all_named(picks, net.processes as u8) {
-        return BenchAnswer::Refused(Refusal::Absent);
+    if !runs::all_named(picks, network.processes as u8) {
+        return Err(Refusal::Absent);
     }
-    BenchAnswer::Listed(playing::list(net, input, picks, listing))
+    Ok(playing::list(network, input, picks, listing))
 }
 
-// The bench: a listing, or a refusal that leaves the buffer as it is. A listing always fits in 65,536 bytes.
-pub fn bench(file: &[u8], input: &[u8], picks: &[u8], listing: &mut [u8]) -> BenchAnswer
+// The bench: the listing's length, or a refusal that leaves the buffer as it is. A listing always fits in 65,536 bytes.
+pub fn bench(file: &[u8], input: &[u8], picks: &[u8], listing: &mut [u8]) -> Result<usize, Refusal>
     ensures { outcome (told result) listing.new ≡ bench_of file.now input.now picks.now listing.old }
 {
     if listing.len() < 65536 {
-        return BenchAnswer::Refused(Refusal::Buffer);
+        return Err(Refusal::Buffer);
     }
-    let reading = lane_reader::read(file);
-    let answer = reading.answer;
-    let net = reading.network;
-    match answer {
-        Answer::Refused(refusal, _) => BenchAnswer::Refused(refusal),
-        Answer::Accepted => play(net, input, picks, listing),
+    // The refusal's place is dropped: `?` behind `map_err` would be no plainer.
+    match lane_reader::read(file) {
+        Ok(network) => play(&network, input, picks, listing),
+        Err(refused) => Err(refused.refusal),
     }
 }

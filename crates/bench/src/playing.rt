@@ -1,152 +1,71 @@
-// The bench's play: the pick bytes from a fresh lane on, then the lines of the processes, each written as it comes. The lane is held in arrays from the
-// first byte to the last.
+// The bench's play: the pick bytes from a fresh lane on, then the lines of the processes.
 ghost use Rattle.std.specs.Prelude.{◌≡◌, true, false, ℕ, ◌≤◌, ◌<◌, length, get_or};
 ghost use Rattle.network.specs.Rules.{passes};
-ghost use Rattle.lane_parts.specs.Parts.{parts, fixed};
-ghost use Rattle.runs.specs.Run.{names};
 ghost use Rattle.outer_ends.specs.Outer.{Outer};
 ghost use Rattle.listing.specs.Text.{text};
 ghost use Rattle.listing.specs.Written.{written};
-ghost use Rattle.bench_rules.specs.Playing.{plays, lines_of};
-ghost use Rattle.bench_turns.specs.Turns.{turn, Ready, Did};
+ghost use Rattle.bench_rules.specs.Playing.{plays, start, lines_of};
+ghost use Rattle.bench_rules.specs.Holding.{held_by, Room, Done};
 ghost use Rattle.bench.specs.Bench.{input_wrong, picks_wrong};
 
+use bench_rules::{Bench, Ends};
+use bench_turns::{play_one, print_processes};
+use lane::SoundLane;
+use listing::Listing;
 use network::Network;
+use outer_ends::outer_after;
 
-// All pick bytes; the place after their lines.
-fn play(
-    picks: &[u8],
-    input: &[u8],
-    inputs: usize,
-    after_input: &[u8; 32],
-    outputs: usize,
-    after_output: &[u8; 32],
-    next: &mut [usize; 32],
-    given: &mut [bool; 32],
-    used: usize,
-    code: &[u8; 4064],
-    first: &[u16; 16],
-    sender: &[u8; 32],
-    receiver: &[u8; 32],
-    channels: usize,
-    registers: &mut [i32; 128],
-    positions: &mut [u16; 16],
-    conditions: &mut [u8; 16],
-    moves: &mut [u64; 16],
-    capacity: &mut [u16; 32],
-    oldest: &mut [u16; 32],
-    held: &mut [u16; 32],
-    peak: &mut [u16; 32],
-    closed: &mut [bool; 32],
-    cells: &mut [i32],
-    listing: &mut [u8],
-) -> usize
-    requires { ((k : ℕ) → k < length picks.now → names (get_or picks.now k 0) used ≡ true) × Outer sender.now channels inputs after_input.now × Outer receiver.now channels outputs after_output.now × Ready (plays picks.now) used (fixed code.now first.now sender.now receiver.now channels) input.now (turn (parts registers.old positions.old conditions.old moves.old capacity.old oldest.old held.old peak.old closed.old) cells.old next.old given.old listing.old 0) }
-    ensures { Did (plays picks.now) used (fixed code.now first.now sender.now receiver.now channels) input.now (turn (parts registers.old positions.old conditions.old moves.old capacity.old oldest.old held.old peak.old closed.old) cells.old next.old given.old listing.old 0) (turn (parts registers.new positions.new conditions.new moves.new capacity.new oldest.new held.new peak.new closed.new) cells.new next.new given.new listing.new result) }
+// The channels with this end at the outside.
+fn ends_of(ends: &[u8; 32], channels: usize) -> Ends
+    requires { channels ≤ 32 }
+    ensures { Outer ends.now channels result.first result.after }
 {
-    let mut place: usize = 0;
-    let mut i: usize = 0;
-    while i < picks.len() {
-        place = bench_turns::play_one(
-            picks[i],
-            input,
-            inputs,
-            after_input,
-            outputs,
-            after_output,
-            next,
-            given,
-            used,
-            code,
-            first,
-            sender,
-            receiver,
-            channels,
-            registers,
-            positions,
-            conditions,
-            moves,
-            capacity,
-            oldest,
-            held,
-            peak,
-            closed,
-            cells,
-            listing,
-            place,
-        );
-        i += 1;
+    let mut after = [0u8; 32];
+    let first = outer_after(ends, channels, &mut after);
+    Ends { first, after }
+}
+
+// The start: a fresh lane, cells of zero, all input left and no end given.
+#[tactic(auto, using(lane::proofs::SoundLaws::fresh_sound))]
+fn start<'a>(network: &Network, input: &'a [u8]) -> Bench<'a>
+    requires { passes network.now ≡ true }
+    ensures { held_by result ≡ start network.now input.now }
+{
+    let lane = lane_sound::fresh(*network);
+    let cells = [0; 8192];
+    Bench {
+        sound: SoundLane { lane },
+        cells,
+        input,
+        next: [0; 32],
+        given: [false; 32],
+        inputs: ends_of(&network.sender, network.channels),
+        outputs: ends_of(&network.receiver, network.channels),
     }
-    place
+}
+
+// All pick bytes.
+fn play_all(bench: &mut Bench, picks: &[u8], listing: &mut Listing)
+    requires named { (k : ℕ) → k < length picks.now → (get_or picks.now k 0 ≡ 255 → ⊥) → get_or picks.now k 0 < bench.old.sound.lane.network.processes }
+    requires room { Room (plays picks.now (held_by bench.old)) listing.old }
+    ensures { Done (plays picks.now (held_by bench.old)) listing.old (held_by bench.new) listing.new }
+{
+    for &pick in picks {
+        play_one(bench, pick, listing);
+    }
 }
 
 // The whole listing, on cells of its own; its length. Public for `bench`, which has tested the input and the pick bytes.
-pub fn list(net: Network, input: &[u8], picks: &[u8], listing: &mut [u8]) -> usize
-    requires { (passes net ≡ true) × (input_wrong net input.now picks.now ≡ false) × (picks_wrong net picks.now ≡ false) × (65536 ≤ length listing.old) }
-    ensures { (result ≡ length (text (lines_of net input.now picks.now))) × (listing.new ≡ written 0 (text (lines_of net input.now picks.now)) listing.old) }
+pub fn list(network: &Network, input: &[u8], picks: &[u8], buffer: &mut [u8]) -> usize
+    requires passed { passes network.now ≡ true }
+    requires input { input_wrong network.now input.now picks.now ≡ false }
+    requires picks { picks_wrong network.now picks.now ≡ false }
+    requires room { 65536 ≤ length buffer.old }
+    ensures { (result ≡ length (text (lines_of network.now input.now picks.now))) × (buffer.new ≡ written 0 (text (lines_of network.now input.now picks.now)) buffer.old) }
 {
-    let code = net.code;
-    let first = net.first;
-    let sender = net.sender;
-    let receiver = net.receiver;
-    let mut capacity = net.capacity;
-    let mut cells = [0i32; 8192];
-    let mut registers = [0i32; 128];
-    let mut positions = [0u16; 16];
-    let mut conditions = [0u8; 16];
-    let mut moves = [0u64; 16];
-    let mut oldest = [0u16; 32];
-    let mut held = [0u16; 32];
-    let mut peak = [0u16; 32];
-    let mut closed = [false; 32];
-    let mut next = [0usize; 32];
-    let mut given = [false; 32];
-    let mut after_input = [0u8; 32];
-    let mut after_output = [0u8; 32];
-    let inputs = outer_ends::outer_after(&sender, net.channels, &mut after_input);
-    let outputs = outer_ends::outer_after(&receiver, net.channels, &mut after_output);
-    let place = play(
-        picks,
-        input,
-        inputs,
-        &after_input,
-        outputs,
-        &after_output,
-        &mut next,
-        &mut given,
-        net.processes,
-        &code,
-        &first,
-        &sender,
-        &receiver,
-        net.channels,
-        &mut registers,
-        &mut positions,
-        &mut conditions,
-        &mut moves,
-        &mut capacity,
-        &mut oldest,
-        &mut held,
-        &mut peak,
-        &mut closed,
-        &mut cells,
-        listing,
-    );
-    bench_turns::print_processes(
-        net.processes,
-        &code,
-        &first,
-        &sender,
-        &receiver,
-        &positions,
-        &conditions,
-        &moves,
-        &capacity,
-        &oldest,
-        &held,
-        &peak,
-        &closed,
-        listing,
-        place,
-    )
+    let mut bench = start(network, input);
+    let mut listing = Listing { buffer, at: 0 };
+    play_all(&mut bench, picks, &mut listing);
+    print_processes(&bench.sound, &mut listing);
+    listing.at
 }

@@ -1,6 +1,6 @@
 -- One channel's input: the records that are left, a feed taken or refused, the closing, and a channel at which nothing can be fed or closed.
 -- Assumes nothing.
-use mathlib.Core.Path.{◌≡◌, refl, sym, ap, subst, ◌∙◌}
+use mathlib.Core.Path.{◌≡◌, refl, sym, ap, ◌∙◌}
 use mathlib.Core.Bool.{Bool, true, false, cond, ◌&&◌, ◌||◌, true≢false}
 use mathlib.Core.List.{List, [], ◌∷◌}
 use Prim.Native.Nat.{ℕ, suc, ◌+◌, ◌-◌, ◌≤◌, ◌<◌}
@@ -9,12 +9,22 @@ use native.Mathlib.Omega.{arith}
 use borrow.Author.Tests.{ltb-true, eqb-true, eq-eqb, ne_eqb}
 use lib.Dec.{eqb, ltb}
 use lib.IntN.{ℤ}
+use lib.ListN.{length}
+use Rattle.std.specs.Prelude.{Result, Ok, Err}
+use Rattle.std.specs.Result.{is_err}
+use Rattle.base.specs.declared.Refusal.{Refusal}
+use Rattle.base.specs.Refusals.{number_of}
 use Rattle.base.proofs.Conjunction.{both_true}
+use Rattle.network.specs.Rules.{sender_of, outside}
 use Rattle.process.specs.Execute.{full}
-use Rattle.lane.specs.State.{World, channel_of}
-use Rattle.lane.specs.Calls.{Told, accepted, refused, Called, called, is_closed, receiver_ended, feed_of, close_of}
+use Rattle.lane.specs.declared.Lane.{Lane}
+use Rattle.lane.specs.State.{World, world, channel_of}
+use Rattle.lane.specs.Sound.{sound_of}
+use Rattle.lane.specs.Calls.{Told, refused, Called, called, feed_told, is_closed, receiver_ended, feed_of}
 use Rattle.lane.proofs.CallCases.{feed_cases, close_cases}
-use Rattle.lane.proofs.CallLaws.{Preserves, kept_then, feed_kept, feed_refused}
+use Rattle.lane.proofs.CallLaws.{feed_refused}
+use Rattle.lent_calls.specs.OneChannel.{fed_or_not, closed_or_not}
+use Rattle.lent_calls.proofs.There.{feed_there, close_there}
 use Rattle.bench_rules.specs.Input.{records, channel_at, value_at, left_from}
 use Rattle.bench_rules.specs.Feeding.{is_accepted, fed, feeding}
 use Rattle.bench_feeds.specs.Idle.{idle_at}
@@ -42,36 +52,49 @@ feeding_by c v vs w r e = ap (λ (s : Called). cond (is_accepted s.answer) (feed
 feed_left : (c : ℕ) (v : ℤ) (w w' : World) (k : ℕ) → called (refused k) w' ≡ feed_of c v w → w ≡ w'
 feed_left c v w w' k e = sym (ap (λ (r : Called). r.world) e ∙ feed_refused w c v k (sym (ap (λ (r : Called). r.answer) e)))
 
--- ---- a loop over the records: what is left leads to the same end as all did at the start, and the lane is still fit for calls
-pub record Filling (input : List ℕ) (c next : ℕ) (w₀ : World) (i : ℕ) (w : World) : Type 0 where
-  pub rest : feeding c (left_from input c next) w₀ ≡ feeding c (left_from input c i) w
-  pub kept : Preserves w₀ w
+-- ---- the channel that is fed is there, and comes from outside
+pub record Inlet (c : ℕ) (w : World) : Type 0 where
+  pub sound : sound_of w.lane ≡ true
+  pub there : c < w.lane.network.channels
+  pub outer : sender_of w.lane.network c ≡ outside
+  pub long : length w.cells ≡ 8192
 
-module _ {input : List ℕ} {c next i : ℕ} {w₀ w : World} (s : Filling input c next w₀ i w) where
+-- as it was at the start, with the same network
+pub inlet_at : {c : ℕ} {l : Lane} (l₀ : Lane) {cells : List ℤ} → sound_of l ≡ true → l.network ≡ l₀.network → length cells ≡ 8192
+    → (c < l₀.network.channels) × (sender_of l₀.network c ≡ outside) → Inlet c (world l cells)
+inlet_at l₀ s e long at = record { sound = s; there = rw e at.0; outer = rw e at.1; long = long }
+
+-- ---- a step of the loop over the records, at record i
+module _ (input : List ℕ) (c i : ℕ) (w : World) where
   -- a record of another channel is passed
-  pub passed_over : i < records input → (channel_at input i ≡ c → ⊥) → Filling input c next w₀ (i + 1) w
-  passed_over h n = record { rest = s.rest ∙ ap (λ (vs : List ℤ). feeding c vs w) (left_other input c i h n); kept = s.kept }
+  pub passed_over : i < records input → (channel_at input i ≡ c → ⊥) → feeding c (left_from input c i) w ≡ feeding c (left_from input c (i + 1)) w
+  passed_over h n = ap (λ (vs : List ℤ). feeding c vs w) (left_other input c i h n)
 
   -- a value is taken
-  pub taken_in : {w' : World} → i < records input → channel_at input i ≡ c → called accepted w' ≡ feed_of c (value_at input i) w → Filling input c next w₀ (i + 1) w'
-  taken_in {w'} h e f =
-      record {
-        rest = s.rest ∙ ap (λ (vs : List ℤ). feeding c vs w) (left_this input c i h e) ∙ feeding_by c (value_at input i) (left_from input c (i + 1)) w _ f;
-        kept = kept_then s.kept (subst (λ (r : Called). Preserves w r.world) (sym f) (feed_kept w c (value_at input i)));
-      }
+  pub taken_in : (r : Result Unit Refusal) {w' : World} → is_err r ≡ false → Inlet c w → i < records input → channel_at input i ≡ c
+      → called (feed_told r) w' ≡ fed_or_not c (value_at input i) w
+      → feeding c (left_from input c i) w ≡ feeding c (left_from input c (i + 1)) w'
+  taken_in (Ok u) e t h d f =
+      ap (λ (vs : List ℤ). feeding c vs w) (left_this input c i h d)
+      ∙ feeding_by c (value_at input i) (left_from input c (i + 1)) w _ (f ∙ sym (feed_there c w t.sound t.there (value_at input i) t.long t.outer))
+  taken_in (Err k) e t h d f = absurd (true≢false e)
 
   -- a value is refused
-  pub turned_down : {w' : World} (k : ℕ) → i < records input → channel_at input i ≡ c → called (refused k) w' ≡ feed_of c (value_at input i) w
-      → feeding c (left_from input c next) w₀ ≡ fed (left_from input c i) w'
-  turned_down {w'} k h e f =
-      s.rest ∙ ap (λ (vs : List ℤ). feeding c vs w) (left_this input c i h e) ∙ feeding_by c (value_at input i) (left_from input c (i + 1)) w _ f
-      ∙ (λ j. fed (sym (left_this input c i h e) j) (feed_left c (value_at input i) w w' k f j))
+  pub turned_down : (r : Result Unit Refusal) {w' : World} → is_err r ≡ true → Inlet c w → i < records input → channel_at input i ≡ c
+      → called (feed_told r) w' ≡ fed_or_not c (value_at input i) w
+      → feeding c (left_from input c i) w ≡ fed (left_from input c i) w'
+  turned_down (Ok u) e t h d f = absurd (true≢false (sym e))
+  turned_down (Err k) {w'} e t h d f =
+      let g = f ∙ sym (feed_there c w t.sound t.there (value_at input i) t.long t.outer) in
+      ap (λ (vs : List ℤ). feeding c vs w) (left_this input c i h d) ∙ feeding_by c (value_at input i) (left_from input c (i + 1)) w _ g
+      ∙ (λ j. fed (sym (left_this input c i h d) j) (feed_left c (value_at input i) w w' (number_of k) g j))
 
   -- all is fed: the closing
-  pub spent : {a : Told} {w' : World} → records input ≤ i → called a w' ≡ close_of c w → feeding c (left_from input c next) w₀ ≡ fed (left_from input c i) w'
-  spent h f =
-      let n = left_none input c i h in
-      s.rest ∙ ap (λ (vs : List ℤ). feeding c vs w) n ∙ (λ j. fed (sym n j) (sym f j).world)
+  pub spent : {a : Told} {w' : World} (k : ℕ) → Inlet c w → records input ≤ i → records input ≤ k → called a w' ≡ closed_or_not c w
+      → feeding c (left_from input c i) w ≡ fed (left_from input c k) w'
+  spent k t h m f =
+      let g = f ∙ sym (close_there c w t.sound t.there t.outer) in
+      ap (λ (vs : List ℤ). feeding c vs w) (left_none input c i h) ∙ (λ j. fed (sym (left_none input c k m) j) (sym g j).world)
 
 -- ---- a channel at which nothing can be fed or closed
 module _ (c : ℕ) (w : World) where

@@ -1,9 +1,9 @@
 -- All inputs, channels rising: what is left of each channel's records, and a channel that is inside, idle or filled.
 -- Assumes nothing.
-use mathlib.Core.Path.{◌≡◌, sym, ap, subst, ◌∙◌}
+use mathlib.Core.Path.{◌≡◌, refl, sym, ap, subst, ◌∙◌}
 use mathlib.Core.Bool.{true}
 use mathlib.Core.List.{List, []}
-use Prim.Native.Nat.{ℕ, suc, ◌+◌, ◌-◌, ◌≤◌, ◌<◌}
+use Prim.Native.Nat.{ℕ, zero, suc, ◌+◌, ◌-◌, ◌≤◌, ◌<◌}
 use native.Mathlib.Decide.{ℕ_discrete}
 use native.Mathlib.Numerals.{add-one}
 use native.Mathlib.Omega.{arith}
@@ -13,14 +13,11 @@ use lib.ListN.{length, get_or, set, length-set}
 use lib.Seq.{get_or-set_same, get_or-set_other, set-get_or}
 use Rattle.base.proofs.Lists.{length_values, table_at, table_is}
 use Rattle.network.specs.Rules.{sender_of, outside}
+use Rattle.outer_ends.specs.Outer.{Onward}
 use Rattle.lane.specs.State.{World, channel_of}
-use Rattle.lane.specs.Sound.{sound_of}
 use Rattle.lane.specs.Calls.{receiver_ended}
-use Rattle.lane.proofs.CallLaws.{Preserves, unchanged, kept_then}
-use Rattle.lent_calls.proofs.There.{low}
 use Rattle.bench_rules.specs.Input.{left_from, left_at}
 use Rattle.bench_rules.specs.Feeding.{Fed, fed, feeding, Inputs, inputs, put, feeds_at, feeds_from, feeds}
-use Rattle.bench_rules.proofs.Fed.{feeding_kept}
 use Rattle.bench_feeds.specs.Idle.{idle_at}
 use Rattle.bench_feeds.proofs.Filling.{idle_stays}
 
@@ -58,58 +55,66 @@ feeds_inside : (c : ℕ) (i : Inputs) → (sender_of i.world.lane.network c ≡ 
 unfolding feeds_at
 feeds_inside c i n = rw (ne_eqb _ _ n)
 
+-- those between c and the next from outside are inside
+feeds_jump : {c e : ℕ} (i : Inputs) → Onward i.world.lane.network.sender i.world.lane.network.channels c e
+    → feeds_from c (i.world.lane.network.channels - c) i ≡ feeds_from e (i.world.lane.network.channels - e) i
+feeds_jump {c} {e} i o = go (e - c) c (omega arith) (omega (arith, o.from))
+  where
+    go : (k d : ℕ) → c ≤ d → d + k ≡ e → feeds_from d (i.world.lane.network.channels - d) i ≡ feeds_from e (i.world.lane.network.channels - e) i
+    go zero d h q = let same : d ≡ e = omega arith in rw same
+    go (suc k) d h q =
+        feeds_next d i.world.lane.network.channels i (omega (arith, o.within))
+        ∙ ap (feeds_from (d + 1) (i.world.lane.network.channels - (d + 1))) (feeds_inside d i (o.inside d h (omega arith)))
+        ∙ go k (d + 1) (omega arith) (omega arith)
+
+-- ---- a loop over the channels from outside: it has come to channel c of n, or to the end, and the channels that are left lead to the same end as all did
+-- at the start
+pub record Around (i₀ i : Inputs) (n c : ℕ) : Type 0 where
+  pub rest : feeds i₀ ≡ feeds_from c (n - c) i
+  pub channels : i.world.lane.network.channels ≡ n
+  pub outer : c < n → sender_of i.world.lane.network c ≡ outside
+
+pub around_begins : (i : Inputs) {e : ℕ} → Onward i.world.lane.network.sender i.world.lane.network.channels 0 e → Around i i i.world.lane.network.channels e
+unfolding feeds
+around_begins i o =
+    record {
+      rest = let n : i.world.lane.network.channels - 0 ≡ i.world.lane.network.channels = omega arith in rw n at (feeds_jump i o);
+      channels = refl;
+      outer = o.outer;
+    }
+
+-- channel c has come to this; on to the next from outside
+pub around_on : {i₀ i : Inputs} {c e n : ℕ} (i' : Inputs) → Around i₀ i n c → c < n → i'.world.lane.network.channels ≡ n → feeds_at c i ≡ i'
+    → (i'.world.lane.network.channels ≡ n → Onward i'.world.lane.network.sender i'.world.lane.network.channels (c + 1) e)
+    → Around i₀ i' n e
+around_on {i₀} {i} {c} {e} {n} i' a h same come next =
+    let o = next same in
+    record {
+      rest =
+          a.rest ∙ feeds_next c n i h ∙ ap (feeds_from (c + 1) (n - (c + 1))) come
+          ∙ subst (λ (k : ℕ). feeds_from (c + 1) (k - (c + 1)) i' ≡ feeds_from e (k - e) i') same (feeds_jump i' o);
+      channels = same;
+      outer = λ m. o.outer (omega arith);
+    }
+
+pub around_ends : {i₀ i : Inputs} {n c : ℕ} → Around i₀ i n c → n ≤ c → i ≡ feeds i₀
+around_ends {n = n} {c = c} a h = let z : n - c ≡ 0 = omega arith in sym (a.rest ∙ rw z)
+
 -- from outside, it is filled
 feeds_outside : (input at : List ℕ) (c : ℕ) (w : World) (f : Fed) → c < 32 → sender_of w.lane.network c ≡ outside → feeding c (left_from input c (get_or at c 0)) w ≡ f
     → feeds_at c (inputs (left_at input at) w) ≡ put c f (left_at input at)
 unfolding feeds_at
 feeds_outside input at c w f h e s = rw (eq-eqb _ _ e, left_at_lem input at c h, s)
 
--- ---- a loop over the channels: those that are left lead to the same end as all did at the start, and the lane is still fit for calls
-pub record Rising (input next : List ℕ) (w₀ : World) (c : ℕ) (at : List ℕ) (w : World) : Type 0 where
-  pub within : c ≤ w₀.lane.network.channels
-  pub long : length at ≡ 32
-  pub kept : Preserves w₀ w
-  pub rest : feeds (inputs (left_at input next) w₀) ≡ feeds_from c (w₀.lane.network.channels - c) (inputs (left_at input at) w)
+module _ (input at : List ℕ) {c : ℕ} (w : World) (below : c < 32) (outer : sender_of w.lane.network c ≡ outside) where
+  -- one that is idle stays
+  pub feeds_idle : idle_at (channel_of w.lane c) (receiver_ended c w) input c (get_or at c 0) ≡ true → feeds_at c (inputs (left_at input at) w) ≡ inputs (left_at input at) w
+  feeds_idle i =
+      feeds_outside input at c w _ below outer (idle_stays c w input (get_or at c 0) i)
+      ∙ ap (λ (l : List (List ℤ)). inputs l w) (ap (set (left_at input at) c) (sym (left_at_lem input at c below)) ∙ set-get_or (left_at input at) c [])
 
-pub at_first : (input next : List ℕ) (w : World) → length next ≡ 32 → Rising input next w 0 next w
-unfolding feeds
-at_first input next w long =
-    record {
-      within = omega arith;
-      long = long;
-      kept = unchanged w;
-      rest = let n : w.lane.network.channels - 0 ≡ w.lane.network.channels = omega arith in rw n;
-    }
-
-module _ {input next : List ℕ} {w₀ : World} {c : ℕ} {at : List ℕ} {w : World} (s : Rising input next w₀ c at w) where
-  pub at_last : w₀.lane.network.channels ≤ c → inputs (left_at input at) w ≡ feeds (inputs (left_at input next) w₀)
-  at_last h = let n : w₀.lane.network.channels - c ≡ 0 = omega arith in sym (s.rest ∙ rw n)
-
-  module _ (sound : sound_of w₀.lane ≡ true) (h : c < w₀.lane.network.channels) where
-    below : c < 32
-    below = low w₀.lane sound h
-
-    -- the next channel has come to this
-    onward : (at' : List ℕ) (w' : World) → length at' ≡ 32 → Preserves w w' → feeds_at c (inputs (left_at input at) w) ≡ inputs (left_at input at') w' → Rising input next w₀ (c + 1) at' w'
-    onward at' w' long k e =
-        record {
-          within = omega arith;
-          long = long;
-          kept = kept_then s.kept k;
-          rest = s.rest ∙ feeds_next c w₀.lane.network.channels _ h ∙ ap (feeds_from (c + 1) (w₀.lane.network.channels - (c + 1))) e;
-        }
-
-    pub inside_passed : (sender_of w₀.lane.network c ≡ outside → ⊥) → Rising input next w₀ (c + 1) at w
-    inside_passed n = onward at w s.long (unchanged w) (feeds_inside c _ (rw s.kept.network n))
-
-    pub idle_passed : sender_of w₀.lane.network c ≡ outside → idle_at (channel_of w.lane c) (receiver_ended c w) input c (get_or at c 0) ≡ true → Rising input next w₀ (c + 1) at w
-    idle_passed e i =
-        onward at w s.long (unchanged w)
-        (feeds_outside input at c w _ below (rw s.kept.network e) (idle_stays c w input (get_or at c 0) i)
-        ∙ ap (λ (l : List (List ℤ)). inputs l w) (ap (set (left_at input at) c) (sym (left_at_lem input at c below)) ∙ set-get_or (left_at input at) c []))
-
-    pub filled : (k : ℕ) (w' : World) → sender_of w₀.lane.network c ≡ outside → feeding c (left_from input c (get_or at c 0)) w ≡ fed (left_from input c k) w'
-        → Rising input next w₀ (c + 1) (set at c k) w'
-    filled k w' e f =
-        onward (set at c k) w' (length-set at c k ∙ s.long) (subst (λ (f : Fed). Preserves w f.world) f (feeding_kept c (left_from input c (get_or at c 0)) w))
-        (feeds_outside input at c w _ below (rw s.kept.network e) f ∙ ap (λ (l : List (List ℤ)). inputs l w') (left_set input at c k s.long))
+  -- one that is filled
+  pub feeds_filled : (k : ℕ) {w' : World} → length at ≡ 32 → feeding c (left_from input c (get_or at c 0)) w ≡ fed (left_from input c k) w'
+      → feeds_at c (inputs (left_at input at) w) ≡ inputs (left_at input (set at c k)) w'
+  feeds_filled k {w'} long f =
+      feeds_outside input at c w _ below outer f ∙ ap (λ (l : List (List ℤ)). inputs l w') (left_set input at c k long)

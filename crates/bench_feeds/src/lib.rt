@@ -1,41 +1,26 @@
 // The inputs of a bench: fed until they are full or spent, the spent ones closed.
 #![tactic(auto)]
 
-ghost use Rattle.std.specs.Prelude.{◌≡◌, false, ℕ, ◌<◌, get_or};
-ghost use Rattle.lane.specs.State.{is_ended};
-ghost use Rattle.outer_ends.specs.Outer.{Outer};
-ghost use Rattle.lane_parts.specs.Parts.{condition_of, channel};
-ghost use Rattle.lent_calls.specs.OneChannel.{Feedable};
-ghost use Rattle.bench_rules.specs.Input.{records, channel_at, signed32, value_at};
-ghost use Rattle.bench_feeds.specs.Idle.{Idling, idle_at};
-ghost use Rattle.bench_feeds.specs.Feeds.{inlets, Filled, Feeding, Fed};
+ghost use Rattle.std.specs.Prelude.{◌≡◌, ℤ, List, ◌<◌, get_or};
+ghost use Rattle.network.specs.Rules.{sender_of, outside};
+ghost use Rattle.lane.specs.State.{world, channel_of};
+ghost use Rattle.lane.specs.Calls.{receiver_ended};
+ghost use Rattle.bench_rules.specs.Input.{records, channel_at, value_at, left_from};
+ghost use Rattle.bench_rules.specs.Feeding.{feeding, fed};
+ghost use Rattle.bench_rules.specs.Holding.{held_by, feeds_in};
+ghost use Rattle.bench_feeds.specs.Idle.{idle_at};
 
-use lane::FeedAnswer;
+use bench_rules::Bench;
+use lane::{Lane, SoundLane};
+use lane_parts::ended_at;
+use lent_calls::{close_in, feed_in};
 
 // The channel of record i. Public for the bench, which looks at the records before it plays.
 pub fn channel_at(input: &[u8], i: usize) -> usize
     requires { i < records input.now }
     ensures { result ≡ channel_at input.now i }
 {
-    input[5 * i] as usize
-}
-
-// A byte as a number of 32 bits.
-fn wide(byte: u8) -> u32
-    ensures { (result ≡ byte) × (result < 256) }
-{
-    byte as u32
-}
-
-// A number of 32 bits as a signed one. Those from 2^31 on stand for negative numbers: the largest for -1, and so on down.
-fn signed(n: u32) -> i32
-    ensures { result ≡ signed32 n }
-{
-    if n < 2147483648 {
-        n as i32
-    } else {
-        -1 - ((4294967295 - n) as i32)
-    }
+    usize::from(input[5 * i])
 }
 
 // The value of record i.
@@ -44,105 +29,56 @@ fn value_at(input: &[u8], i: usize) -> i32
     ensures { result ≡ value_at input.now i }
 {
     let k = 5 * i;
-    let high = 256 * wide(input[k + 1]) + wide(input[k + 2]);
-    let low = 256 * wide(input[k + 3]) + wide(input[k + 4]);
-    signed(65536 * high + low)
+    i32::from_be_bytes([input[k + 1], input[k + 2], input[k + 3], input[k + 4]])
 }
 
 // Channel c, which comes from outside: feeds from record `from` on until one is refused; when all is fed, a closing. The next record.
 fn fill_in(
+    sound: &mut SoundLane,
+    cells: &mut [i32; 8192],
+    input: &[u8],
     c: usize,
     from: usize,
-    input: &[u8],
-    gone: bool,
-    capacity: &[u16; 32],
-    oldest: &[u16; 32],
-    held: &mut [u16; 32],
-    peak: &mut [u16; 32],
-    closed: &mut [bool; 32],
-    cells: &mut [i32],
 ) -> usize
-    requires { Feedable c capacity.now oldest.now held.old peak.old closed.old cells.old }
-    ensures { Filled input.now c from gone (inlets capacity.now oldest.now held.old peak.old closed.old cells.old) result (inlets capacity.now oldest.now held.new peak.new closed.new cells.new) }
+    requires { (c < sound.old.lane.network.channels) × (sender_of sound.old.lane.network c ≡ outside) }
+    ensures { (feeding c (left_from input.now c from) (world sound.old.lane cells.old) ≡ fed (left_from input.now c result) (world sound.new.lane cells.new))
+        × (sound.new.lane.network ≡ sound.old.lane.network) }
 {
     let records = input.len() / 5;
-    let mut i = from;
-    while i < records {
-        if channel_at(input, i) == c {
-            let v = value_at(input, i);
-            let answer = lent_calls::feed_in(
-                c, v, gone, capacity, oldest, held, peak, closed, cells,
-            );
-            if let FeedAnswer::Refused(_) = answer {
-                return i;
-            }
+    for i in from..records {
+        if channel_at(input, i) == c && feed_in(sound, cells, c, value_at(input, i)).is_err() {
+            return i;
         }
-        i += 1;
     }
-    lent_calls::close_in(c, capacity, oldest, held, peak, closed);
-    i
+    let _ = close_in(sound, c);
+    records
 }
 
 // Nothing can be fed or closed at channel c now: it is closed, or full with a value left, which is that of the next record.
-fn idle(
-    c: usize,
-    next: usize,
-    input: &[u8],
-    receiver: &[u8; 32],
-    conditions: &[u8; 16],
-    capacity: &[u16; 32],
-    held: &[u16; 32],
-    closed: &[bool; 32],
-) -> bool
-    requires { Idling c receiver.now conditions.now capacity.now held.now closed.now }
-    ensures { (oldest peak : ℕ) → result ≡ idle_at (channel (get_or capacity.now c 0) oldest (get_or held.now c 0) peak (get_or closed.now c false)) (is_ended (condition_of (get_or conditions.now (get_or receiver.now c 0) 0))) input.now c next }
+#[tactic(auto, unfolding(crate::specs::Idle::idle_at))]
+fn idle(lane: &Lane, input: &[u8], c: usize, next: usize) -> bool
+    requires { c < 32 }
+    ensures { (cells : List ℤ) → result ≡ idle_at (channel_of lane.now c) (receiver_ended c (world lane.now cells)) input.now c next }
 {
-    if closed[c] {
-        return true;
-    }
-    if lane_parts::ended_at(receiver[c], conditions) {
-        return false;
-    }
-    if held[c] != capacity[c] {
-        return false;
-    }
-    if next < input.len() / 5 {
-        return channel_at(input, next) == c;
-    }
-    false
+    let channel = lane.channels[c];
+    channel.closed
+        || !ended_at(lane, lane.network.receiver[c])
+            && channel.held == channel.capacity
+            && next < input.len() / 5
+            && channel_at(input, next) == c
 }
 
-// Each input in turn: `inputs` is the first channel from outside, `after` has for each channel the next one, so that those inside are passed over. Public for the bench, which has shown that the lane is sound and the cells are 8,192.
-pub fn feed_all(
-    inputs: usize,
-    after: &[u8; 32],
-    sender: &[u8; 32],
-    receiver: &[u8; 32],
-    channels: usize,
-    conditions: &[u8; 16],
-    input: &[u8],
-    next: &mut [usize; 32],
-    capacity: &[u16; 32],
-    oldest: &[u16; 32],
-    held: &mut [u16; 32],
-    peak: &mut [u16; 32],
-    closed: &mut [bool; 32],
-    cells: &mut [i32],
-)
-    requires { Outer sender.now channels inputs after.now × Feeding sender.now receiver.now channels conditions.now next.old (inlets capacity.now oldest.now held.old peak.old closed.old cells.old) }
-    ensures { Fed sender.now receiver.now channels conditions.now input.now next.old (inlets capacity.now oldest.now held.old peak.old closed.old cells.old) next.new (inlets capacity.now oldest.now held.new peak.new closed.new cells.new) }
+// Each input in turn; the channels inside are passed over. The list spares them: a `for` over all channels was tried, and costs some 3 instructions for each.
+pub fn feed_all(bench: &mut Bench)
+    ensures { held_by bench.new ≡ feeds_in (held_by bench.old) }
 {
-    let mut c = inputs;
+    let channels = bench.sound.lane.network.channels;
+    let mut c = bench.inputs.first;
     while c < channels {
-        if sender[c] == 255 {
-            let from = next[c];
-            if !idle(c, from, input, receiver, conditions, capacity, held, closed) {
-                let gone = lane_parts::ended_at(receiver[c], conditions);
-                next[c] = fill_in(
-                    c, from, input, gone, capacity, oldest, held, peak, closed, cells,
-                );
-            }
+        let from = bench.next[c];
+        if !idle(&bench.sound.lane, bench.input, c, from) {
+            bench.next[c] = fill_in(&mut bench.sound, &mut bench.cells, bench.input, c, from);
         }
-        c = base::wide(after[c]);
+        c = usize::from(bench.inputs.after[c]);
     }
 }

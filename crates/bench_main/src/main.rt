@@ -2,14 +2,13 @@
 #![tactic(auto)]
 
 use base::Refusal;
-use bench::BenchAnswer;
 
 const OUT: i32 = 1;
 
 // `refused number`.
 fn print_refusal(refusal: Refusal) {
     io::write_all(OUT, b"refused ");
-    io::print_decimal(OUT, base::number(refusal) as u64);
+    io::print_decimal(OUT, u64::from(u8::from(refusal)));
     io::write_all(OUT, b"\n");
 }
 
@@ -17,11 +16,10 @@ fn print_refusal(refusal: Refusal) {
 fn show(file: &[u8], input: &[u8], picks: &[u8]) {
     let mut listing = [0u8; 65536];
     match bench::bench(file, input, picks, &mut listing) {
-        BenchAnswer::Listed(length) => {
-            let start: usize = 0;
-            io::write_all(OUT, &listing[start..length]);
+        Ok(length) => {
+            io::write_all(OUT, &listing[..length]);
         }
-        BenchAnswer::Refused(refusal) => print_refusal(refusal),
+        Err(refusal) => print_refusal(refusal),
     }
 }
 

@@ -3,3 +3,4 @@ pub mod Input
 pub mod Feeding
 pub mod Emptying
 pub mod Playing
+pub mod Holding

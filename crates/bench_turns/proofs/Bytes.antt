@@ -1,137 +1,67 @@
--- A pick byte alone on lent arrays: a relief, or a pick.
+-- A pick byte alone: a relief, or a pick.
 -- Assumes nothing.
-use mathlib.Core.Path.{◌≡◌, refl, sym, ap, ◌∙◌}
-use mathlib.Core.Bool.{cond}
-use mathlib.Core.List.{List, []}
-use Prim.Native.Nat.{ℕ, ◌+◌, ◌≤◌, ◌<◌}
-use native.Mathlib.Nat.{add-zero}
-use native.Mathlib.Omega.{arith}
-use borrow.Author.Tests.{ltb-true, ne_eqb}
-use lib.Dec.{eqb, ltb}
-use lib.IntN.{ℤ}
-use lib.ListN.{length, get_or, replicate}
-use Rattle.network.specs.declared.Network.{Network}
-use Rattle.process.specs.declared.Channel.{Channel}
+use mathlib.Core.Path.{◌≡◌, sym, ap, ◌∙◌}
+use mathlib.Core.Bool.{true}
+use mathlib.Core.List.{[], ◌∷◌, append-nil}
+use Prim.Native.Nat.{ℕ, ◌≤◌, ◌<◌}
+use borrow.Author.Tests.{eq-eqb, ne_eqb}
+use lib.ListN.{replicate}
 use Rattle.lane.specs.declared.Lane.{Lane}
 use Rattle.lane.specs.State.{World, world, channel_of}
 use Rattle.lane.specs.Sound.{sound_of}
-use Rattle.lane.proofs.PickLaws.{pick_sound, pick_cells}
-use Rattle.lane_parts.specs.Parts.{lane_of, Parts, Full, Fixed}
-use Rattle.lane_parts.proofs.Lanes.{lane_shaped, sound_counted}
-use Rattle.lane_parts.proofs.Zip.{channel_at_lem}
-use Rattle.lent_picks.specs.Finish.{Picking, Picked}
-use Rattle.relief.specs.declared.ReliefAnswer.{ReliefAnswer}
-use Rattle.relief.specs.Relief.{Told, enlarged, refused, told, relieve_of}
-use Rattle.waits.specs.Lent.{Relievable}
-use Rattle.relief.proofs.Enlarged.{relief_kept}
-use Rattle.schedule.specs.Running.{has_grown}
-use Rattle.schedule.specs.Lent.{counted_by, Relieved}
-use Rattle.schedule.proofs.Lent.{with_capacity, seen, shows, relievable}
-use Rattle.runs.proofs.Stretches.{one_of}
-use Rattle.listing.specs.Text.{Line, text}
-use Rattle.listing.specs.Written.{written}
-use Rattle.listing.proofs.Laws.{written_length, written_none}
-use Rattle.bench_rules.specs.Printed.{Printed, printed}
-use Rattle.bench_rules.specs.Playing.{grow_lines, picks_in}
-use Rattle.bench_turns.specs.Turns.{Byte, ByteReady, ByteDid, growth_of}
+use Rattle.lane.specs.Pick.{pick_in}
+use Rattle.relief.specs.Relief.{Told, enlarged, refused, relieve_of}
+use Rattle.schedule.specs.Running.{relieves}
+use Rattle.listing.specs.declared.Listing.{Listing}
+use Rattle.listing.specs.Text.{Line, line_text, text, grow}
+use Rattle.listing.specs.Listing.{HasRoom, Wrote}
+use Rattle.listing.proofs.Laws.{wrote_none}
+use Rattle.bench_rules.specs.Printed.{Printed, printed, silent}
+use Rattle.bench_rules.specs.Playing.{grow_lines, relieves_in, picks_in, Bench, bench}
+use Rattle.bench_rules.specs.Holding.{Room, Done}
+use Rattle.bench_turns.specs.Turns.{byte_in}
 use Rattle.bench_turns.proofs.Grown.{grown_fits}
-use Rattle.bench_turns.proofs.Stages.{relief_is, pick_is}
 
--- the capacity of a channel of the lane of some arrays
-capacity_is : (n : Network) (accepted : ℕ) {t : Parts} → Full t → (c : ℕ) → (channel_of (lane_of n accepted t) c).capacity ≡ get_or t.capacity c 0
-capacity_is n accepted {t} full c =
-    ap (λ (h : Channel). h.capacity)
-    (channel_at_lem 32 t.capacity t.oldest t.held t.peak t.closed full.thirty_two.room full.thirty_two.place full.thirty_two.number full.thirty_two.mark full.thirty_two.shut c)
+-- ---- a byte by what it comes to
+abbrev leaving : Bench → World → Bench
+leaving b w = bench w b.left b.given
 
-growth_is : (a : Told) (n : Network) (accepted : ℕ) {t : Parts} → Full t → grow_lines a (lane_of n accepted t) ≡ growth_of a t.capacity
-growth_is (enlarged k c) n accepted full = rw (capacity_is n accepted full c)
-growth_is (refused k) n accepted full = refl
+byte_done : (p : ℕ) (b : Bench) {r : Printed World} {l l' : Listing} → picks_in p b.world ≡ r → Wrote (text r.lines) l l' → Done (byte_in p b) l (leaving b r.after) l'
+byte_done p b e w = record { after = ap (λ (r : Printed World). leaving b r.after) (sym e); wrote = rw e w }
 
-module _ {pick used : ℕ} {f : Fixed} {t : Parts} {cells : List ℤ} {listing : List ℕ} {place : ℕ} (k : ByteReady pick used f t cells listing place) where
-  -- ---- a relief
-  pub relief_ready : Relievable used (seen f t)
-  relief_ready = relievable k.accepted k.byte.lent k.byte.all k.full k.byte.sound
+-- ---- 255: a relief, which answers so and leaves this lane
+module _ {p : ℕ} (b : Bench) {a : Told} {l' : Lane} (e : p ≡ 255)
+    (d : (a ≡ (relieve_of b.world.lane (replicate 16 0)).answer) × (l' ≡ (relieve_of b.world.lane (replicate 16 0)).lane)) where
+  relief_is : picks_in p b.world ≡ printed (grow_lines a l') (world l' b.world.cells)
+  unfolding relieves_in relieves
+  relief_is = rw (eq-eqb p 255 e, d.0, d.1)
 
-  module _ (e : pick ≡ 255) {r : ReliefAnswer} {capacity' : List ℕ} (d : Relieved used (seen f t) r (cond (has_grown (told r)) 1 0) capacity') where
-    full_then : Full (with_capacity capacity' t)
-    full_then = record { file = k.full.file; sixteen = k.full.sixteen; thirty_two = d.thirty_two }
+  -- refused: no line
+  pub relief_refused : (k : ℕ) {l : Listing} → a ≡ refused k → Done (byte_in p b) l (leaving b (world l' b.world.cells)) l
+  relief_refused k {l} q = byte_done p b (relief_is ∙ ap (λ (t : Told). printed (grow_lines t l') (world l' b.world.cells)) q) (wrote_none l)
 
-    module _ (n : Network) (accepted : ℕ) (b : Byte pick used f t cells listing place n accepted) where
-      abbrev count_then : ℕ
-      count_then = counted_by (cond (has_grown (told r)) 1 0) accepted
+  -- enlarged: one line, of a channel that is there, with a capacity that can be printed
+  module _ {n c : ℕ} (q : a ≡ enlarged n c) where
+    abbrev line : Line
+    line = grow c (channel_of l' c).capacity
 
-      eased : (told r ≡ (relieve_of (lane_of n accepted t) (replicate 16 0)).answer) × (lane_of n count_then (with_capacity capacity' t) ≡ (relieve_of (lane_of n accepted t) (replicate 16 0)).lane)
-      eased = d.leaves (lane_of n accepted t) (shows n accepted k.full b.lent) b.sound b.all
+    growth_is : picks_in p b.world ≡ printed (line ∷ []) (world l' b.world.cells)
+    growth_is = relief_is ∙ ap (λ (t : Told). printed (grow_lines t l') (world l' b.world.cells)) q
 
-      relieved : picks_in pick (world (lane_of n accepted t) cells) ≡ printed (growth_of (told r) capacity') (world (lane_of n count_then (with_capacity capacity' t)) cells)
-      relieved =
-          relief_is (lane_of n accepted t) cells e eased.0 eased.1
-          ∙ ap (λ (ls : List Line). printed ls (world (lane_of n count_then (with_capacity capacity' t)) cells)) (growth_is (told r) n count_then full_then)
+    pub growth_fits : sound_of b.world.lane ≡ true → (c < 32) × ((channel_of l' c).capacity ≤ 256)
+    growth_fits s =
+        let g = grown_fits b.world.lane (replicate 16 0) s n c (sym d.0 ∙ q) in
+        (g.0, rw d.1 g.1)
 
-    -- its line has room, and names a channel with a capacity that can be printed
-    pub growth_fits : ((m c : ℕ) → told r ≡ enlarged m c → (c < 32) × (get_or capacity' c 0 ≤ 256)) × (place + length (text (growth_of (told r) capacity')) ≤ length listing)
-    growth_fits =
-        let q = eased k.network k.accepted k.byte in (
-          λ m c x.
-              let g = grown_fits (lane_of k.network k.accepted t) (replicate 16 0) k.byte.sound m c (sym q.0 ∙ x) in
-              (g.0, omega (arith, g.1, ap (λ (l : Lane). (channel_of l c).capacity) q.1, capacity_is k.network (count_then k.network k.accepted k.byte) full_then c)),
-          rw (relieved k.network k.accepted k.byte) at k.byte.room,
-        )
+    pub room_for_growth : {l : Listing} → Room (byte_in p b) l → HasRoom (line_text line) l
+    room_for_growth room = rw (append-nil (line_text line)) at (rw growth_is at room)
 
-    pub relief_done : {place' : ℕ} {listing' : List ℕ}
-        → (place' ≡ place + length (text (growth_of (told r) capacity'))) × (listing' ≡ written place (text (growth_of (told r) capacity')) listing)
-        → ByteDid pick used f t cells listing place (with_capacity capacity' t) cells listing' place'
-    relief_done w =
-        record {
-          full = full_then;
-          long = k.long;
-          same = ap length w.1 ∙ written_length place (text (growth_of (told r) capacity')) listing growth_fits.1;
-          done =
-              λ n accepted b.
-              let x = relieved n accepted b in
-              record {
-                accepted = count_then n accepted b;
-                sound = rw (eased n accepted b).1 ((relief_kept (world (lane_of n accepted t) []) (replicate 16 0)).sound b.sound);
-                after = ap (λ (p : Printed World). p.after) (sym x);
-                there = w.0 ∙ ap (λ (p : Printed World). place + length (text p.lines)) (sym x);
-                lines = w.1 ∙ ap (λ (p : Printed World). written place (text p.lines) listing) (sym x);
-              };
-        }
+    pub growth_done : {l l'' : Listing} → Wrote (line_text line) l l'' → Done (byte_in p b) l (leaving b (world l' b.world.cells)) l''
+    growth_done w = byte_done p b growth_is (rw (append-nil (line_text line)) w)
 
-  -- ---- a pick
-  module _ (e : pick ≡ 255 → ⊥) where
-    low : (n : Network) → used ≡ n.processes → pick < n.processes
-    low n all = rw (← all) (ltb-true pick used (one_of (ltb pick used) (eqb pick 255) k.named (ne_eqb pick 255 e)))
-
-    pub pick_ready : Picking pick f t cells
-    pick_ready =
-        record {
-          network = k.network;
-          lent = k.byte.lent;
-          full = k.full;
-          sound = sound_counted k.network t k.accepted 0 k.byte.sound;
-          there = low k.network k.byte.all;
-          long = k.long;
-        }
-
-    pub pick_done : {r : ℕ} {t' : Parts} {cells' : List ℤ} → Picked pick f t cells r t' cells' → ByteDid pick used f t cells listing place t' cells' listing place
-    pick_done {r} {t'} {cells'} d =
-        record {
-          full = d.full;
-          long =
-              ap (λ (w : World). length w.cells) (d.leaves k.network k.accepted k.byte.lent k.byte.sound (low k.network k.byte.all)).0
-              ∙ pick_cells pick (world (lane_of k.network k.accepted t) cells) ∙ k.long;
-          same = refl;
-          done =
-              λ n accepted b.
-              let w : World = world (lane_of n accepted t) cells in
-              let q = (d.leaves n accepted b.lent b.sound (low n b.all)).0 in
-              let x = pick_is pick w e in
-              record {
-                accepted = accepted;
-                sound = ap (λ (v : World). sound_of v.lane) q ∙ pick_sound pick w (lane_shaped n accepted k.full) (low n b.all) b.sound;
-                after = q ∙ ap (λ (p : Printed World). p.after) (sym x);
-                there = sym (add-zero place) ∙ ap (λ (p : Printed World). place + length (text p.lines)) (sym x);
-                lines = sym (written_none place listing) ∙ ap (λ (p : Printed World). written place (text p.lines) listing) (sym x);
-              };
-        }
+-- ---- any other byte: a pick, and no line
+module _ {p : ℕ} (b : Bench) (other : p ≡ 255 → ⊥) where
+  pub pick_done : {w : World} {l : Listing} → w ≡ pick_in p b.world → Done (byte_in p b) l (leaving b w) l
+  pick_done {w} {l} e =
+      let same : picks_in p b.world ≡ silent w = rw (ne_eqb p 255 other, e) in
+      byte_done p b same (wrote_none l)

@@ -1,5 +1,4 @@
 pub mod Grown
-pub mod Stages
 pub mod Bytes
-pub mod One
+pub mod Stages
 pub mod Processes

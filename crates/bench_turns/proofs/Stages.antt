@@ -1,78 +1,48 @@
--- The lines of a bench in stages: each stage writes where the last one ended, and all of them together are the rule's lines: of a pick byte.
+-- A pick byte with what comes before and after it, in stages: the feeds, the byte, the takes. Each writes where the last one ended.
 -- Assumes nothing.
 use mathlib.Core.Path.{◌≡◌, refl, sym, ap, subst, ◌∙◌}
-use mathlib.Core.List.{List, [], ◌∷◌, append_assoc}
-use mathlib.Core.Bool.{Bool}
-use Prim.Native.Nat.{ℕ, ◌+◌, ◌≤◌}
-use borrow.Author.Tests.{eq-eqb, ne_eqb}
-use lib.IntN.{ℤ}
-use lib.ListN.{length, replicate}
-use Rattle.lane.specs.declared.Lane.{Lane}
-use Rattle.lane.specs.State.{World, world}
-use Rattle.lane.specs.Pick.{pick_in, pick_next, pick_all, unpicked}
-use Rattle.relief.specs.Relief.{Told, relieve_of}
-use Rattle.schedule.specs.Running.{relieves}
-use Rattle.listing.specs.Text.{Line, text}
-use Rattle.listing.specs.Written.{written}
+use mathlib.Core.List.{List, append-nil}
+use Prim.Native.Nat.{ℕ}
+use Rattle.network.specs.declared.Network.{Network}
+use Rattle.listing.specs.declared.Listing.{Listing}
+use Rattle.listing.specs.Text.{Line}
 use Rattle.bench_rules.specs.Printed.{Printed, printed, silent, then_do}
-use Rattle.bench_rules.specs.Feeding.{Inputs, inputs, feeds}
-use Rattle.bench_rules.specs.Emptying.{Outputs, outputs, empties}
-use Rattle.bench_rules.specs.Playing.{grow_lines, relieves_in, picks_in, Bench, bench, picks_on, plays_one}
-use Rattle.bench_rules.proofs.Underway.{Underway, begun, room_for, more, finished}
+use Rattle.bench_rules.specs.Emptying.{empties}
+use Rattle.bench_rules.specs.Playing.{Bench, plays_one}
+use Rattle.bench_rules.specs.Holding.{inputs_of, feeds_in, on_outputs, Room, Done}
+use Rattle.bench_rules.proofs.Fed.{feeds_kept}
+use Rattle.bench_rules.proofs.Underway.{Underway, begun, room_for, more, done}
+use Rattle.bench_turns.specs.Turns.{byte_in}
 
--- ---- a pick byte alone: a relief, or a pick
-pub relief_is :
-    {p : ℕ} {a : Told} {l' : Lane} (l : Lane) (cells : List ℤ) → p ≡ 255 → a ≡ (relieve_of l (replicate 16 0)).answer → l' ≡ (relieve_of l (replicate 16 0)).lane
-    → picks_in p (world l cells) ≡ printed (grow_lines a l') (world l' cells)
-unfolding relieves_in relieves
-relief_is {p} l cells e q r = rw (eq-eqb p 255 e, q, r)
+then_silent : {A : Type 0} (d : Printed A) → d ≡ then_do d silent
+then_silent {A} d = ap (λ (ls : List Line). printed {A = A} ls d.after) (sym (append-nil d.lines))
 
-pub pick_is : (p : ℕ) (w : World) → (p ≡ 255 → ⊥) → picks_in p w ≡ silent (pick_in p w)
-pick_is p w n = rw (ne_eqb p 255 n)
+abbrev from_byte : ℕ → Bench → Printed Bench
+from_byte p b = then_do (byte_in p b) (on_outputs empties)
 
-pub picked_one : (p : ℕ) (w : World) → (pick_all (p ∷ []) (unpicked w)).world ≡ pick_in p w
-unfolding pick_next
-picked_one p w = refl
-
--- ---- a pick byte with what comes before and after it: what is still to be done after the takes, the pick, the feeds
-abbrev from_takes : List (List ℤ) → Outputs → Printed Bench
-from_takes left o = silent (bench o.world left o.given)
-
-abbrev from_pick : List Bool → List (List ℤ) → World → Printed Bench
-from_pick given left w = then_do (empties (outputs w given)) (from_takes left)
-
-abbrev from_feeds : ℕ → List Bool → Inputs → Printed Bench
-from_feeds p given i = then_do (picks_in p i.world) (from_pick given i.left)
-
-picks_on_is : (p : ℕ) (given : List Bool) (i : Inputs) → picks_on p given i ≡ from_feeds p given i
-picks_on_is p given i =
-    let d : Printed World = picks_in p i.world in
-    let o : Printed Outputs = empties (outputs d.after given) in
-    ap (λ (ls : List Line). printed ls (bench o.after.world i.left o.after.given)) (append_assoc d.lines o.lines [])
-
-plays_one_is : (p : ℕ) (b : Bench) {i : Inputs} → i ≡ feeds (inputs b.left b.world) → plays_one p b ≡ from_feeds p b.given i
+plays_one_is : (p : ℕ) (b : Bench) → plays_one p b ≡ from_byte p (feeds_in b)
 unfolding plays_one
-plays_one_is p b e = picks_on_is p b.given (feeds (inputs b.left b.world)) ∙ ap (from_feeds p b.given) (sym e)
+plays_one_is p b = sym (then_silent (from_byte p (feeds_in b)))
 
-module _ (p : ℕ) (b : Bench) (at : ℕ) (entry : List ℕ) (room : at + length (text (plays_one p b).lines) ≤ length entry) {i : Inputs} (fed : i ≡ feeds (inputs b.left b.world)) where
-  after_feeds : Underway (plays_one p b) at entry (from_feeds p b.given) i at entry
+-- the feeds leave the processes
+pub same_processes : (b₀ : Bench) {b₁ : Bench} → b₁ ≡ feeds_in b₀ → b₁.world.lane.network.processes ≡ b₀.world.lane.network.processes
+same_processes b₀ fed = ap (λ (b : Bench). b.world.lane.network.processes) fed ∙ ap (λ (n : Network). n.processes) (feeds_kept (inputs_of b₀)).network
+
+module _ (p : ℕ) (b₀ : Bench) {l₀ : Listing} (room : Room (plays_one p b₀) l₀) {b₁ : Bench} (fed : b₁ ≡ feeds_in b₀) where
+  after_feeds : Underway (plays_one p b₀) l₀ (from_byte p) b₁ l₀
   after_feeds =
-      let e = plays_one_is p b fed in
-      subst (λ (d : Printed Bench). Underway d at entry (from_feeds p b.given) i at entry) (sym e)
-      (begun (from_feeds p b.given) i at entry (subst (λ (d : Printed Bench). at + length (text d.lines) ≤ length entry) e room))
+      let e : plays_one p b₀ ≡ from_byte p b₁ = plays_one_is p b₀ ∙ ap (from_byte p) (sym fed) in
+      subst (λ (d : Printed Bench). Underway d l₀ (from_byte p) b₁ l₀) (sym e) (begun (from_byte p) b₁ l₀ (subst (λ (d : Printed Bench). Room d l₀) e room))
 
-  pub room_for_pick : at + length (text (picks_in p i.world).lines) ≤ length entry
-  room_for_pick = room_for after_feeds (picks_in p i.world) (from_pick b.given i.left) refl
+  pub room_for_byte : Room (byte_in p b₁) l₀
+  room_for_byte = room_for after_feeds (byte_in p b₁) (on_outputs empties) refl
 
-  module _ {w : World} {place : ℕ} {listing : List ℕ}
-      (picked : w ≡ (picks_in p i.world).after) (there : place ≡ at + length (text (picks_in p i.world).lines)) (here : listing ≡ written at (text (picks_in p i.world).lines) entry) where
-    after_pick : Underway (plays_one p b) at entry (from_pick b.given i.left) w place listing
-    after_pick = more after_feeds (picks_in p i.world) (from_pick b.given i.left) refl picked there here
+  module _ {b₂ : Bench} {l₂ : Listing} (d : Done (byte_in p b₁) l₀ b₂ l₂) where
+    after_byte : Underway (plays_one p b₀) l₀ (on_outputs empties) b₂ l₂
+    after_byte = more after_feeds (byte_in p b₁) (on_outputs empties) refl d.after d.wrote
 
-    pub room_for_takes : place + length (text (empties (outputs w b.given)).lines) ≤ length listing
-    room_for_takes = room_for after_pick (empties (outputs w b.given)) (from_takes i.left) refl
+    pub room_for_takes : Room (on_outputs empties b₂) l₂
+    room_for_takes = room_for after_byte (on_outputs empties b₂) silent (then_silent (on_outputs empties b₂))
 
-    pub after_takes : {o : Outputs} {end : ℕ} {listing' : List ℕ}
-        → o ≡ (empties (outputs w b.given)).after → end ≡ place + length (text (empties (outputs w b.given)).lines) → listing' ≡ written place (text (empties (outputs w b.given)).lines) listing
-        → (bench o.world i.left o.given ≡ (plays_one p b).after) × (end ≡ at + length (text (plays_one p b).lines)) × (listing' ≡ written at (text (plays_one p b).lines) entry)
-    after_takes {o} e q r = finished (more after_pick (empties (outputs w b.given)) (from_takes i.left) refl e q r) (bench o.world i.left o.given) refl
+    pub played : {b₃ : Bench} {l₃ : Listing} → Done (on_outputs empties b₂) l₂ b₃ l₃ → Done (plays_one p b₀) l₀ b₃ l₃
+    played k = done (more after_byte (on_outputs empties b₂) silent (then_silent (on_outputs empties b₂)) k.after k.wrote) refl

@@ -32,20 +32,19 @@ fn step(table: &[u16; 256], crc: u16, b: u8) -> u16
     requires { table.now ≡ entries }
     ensures { result ≡ byte crc b }
 {
-    let at = (crc >> 8) ^ (b as u16);
-    (crc << 8) ^ table[at as usize]
+    let at = (crc >> 8) ^ u16::from(b);
+    (crc << 8) ^ table[usize::from(at)]
 }
 
 // The check of a slice of any length.
+#[tactic(auto, using(crate::proofs::Law::turn, crate::proofs::Law::done))]
 pub fn check(bytes: &[u8]) -> u16
     ensures { result ≡ crc bytes.now }
 {
     let table = TABLE;
     let mut crc: u16 = 0xFFFF;
-    let mut i: usize = 0;
-    while i < bytes.len() {
-        crc = step(&table, crc, bytes[i]);
-        i += 1;
+    for b in bytes {
+        crc = step(&table, crc, *b);
     }
     crc
 }

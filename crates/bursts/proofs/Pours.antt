@@ -1,165 +1,45 @@
--- The loop of a burst: what it keeps, and that it is single feeds until one is refused.
+-- The loop over the values: single feeds, until one is refused.
 -- Assumes nothing.
-use mathlib.Core.Path.{◌≡◌, refl, sym, ap, ap₂, ◌∙◌}
-use mathlib.Core.Bool.{Bool, true, false, cond, not, true≢false}
-use mathlib.Core.List.{List, [], ◌∷◌}
+use mathlib.Core.Path.{◌≡◌, sym, ap, ◌∙◌}
+use mathlib.Core.Bool.{true}
+use mathlib.Core.List.{List}
 use Prim.Native.Nat.{ℕ, suc, ◌+◌, ◌≤◌, ◌<◌}
-use native.Mathlib.Decide.{dec_lt}
-use native.Mathlib.Numerals.{add-one}
 use native.Mathlib.Omega.{arith}
-use borrow.Author.Tests.{lt-ltb, le-ltb, eq-eqb, eqb-false}
+use native.Mathlib.Numerals.{add-one}
 use lib.IntN.{ℤ, pos}
-use lib.ListN.{length, get_or, drop, set, length-set, drop_of_length-le}
-use lib.Seq.{drop-cons, get_or-set_same, set-set}
-use Rattle.process.specs.declared.Channel.{Channel}
-use Rattle.process.specs.Channels.{no_channel, put_one, slot}
-use Rattle.process.specs.Execute.{full}
-use Rattle.process.specs.Want.{counted}
+use lib.ListN.{length, get_or, drop, drop_of_length-le}
+use lib.Seq.{drop-cons}
+use Rattle.lane.specs.State.{World}
 use Rattle.network.specs.Rules.{sender_of, outside}
-use Rattle.lane.specs.declared.Lane.{Lane}
-use Rattle.lane.specs.State.{World, world}
 use Rattle.lane.specs.Sound.{sound_of}
-use Rattle.lane.specs.Calls.{accepted, refused, Called, called, refuse, cells_wrong, unsound, no_channel_there, sender_inside, is_closed, receiver_ended, stored, counting, feed_of}
-use Rattle.lane.proofs.CallLaws.{feed_kept}
-use Rattle.bursts.specs.Bursts.{Delivery, onward, feeds_of}
-use Rattle.bursts.specs.Singly.{stopped}
-use Rattle.bursts.specs.Pouring.{Stream, stream, pour_one, pour_of, poured}
+use Rattle.lane.specs.Calls.{accepted, refused, called}
+use Rattle.lent_calls.specs.OneChannel.{fed_or_not}
+use Rattle.lent_calls.proofs.There.{feed_there}
+use Rattle.bursts.specs.Bursts.{Delivery, delivery, feeds_of}
 
--- a channel that is not full has room
-pub room : (gone : Bool) (h : Channel) → h.held ≤ h.capacity → full gone h ≡ false → gone ≡ false → h.held < h.capacity
-room true h l e g = absurd (true≢false g)
-room false h l e g = let n = eqb-false h.held h.capacity e in omega arith
+-- what a burst leaves of which k values went in before
+abbrev pub further : ℕ → Delivery → Delivery
+further k d = delivery (k + d.fed) d.answer d.world
 
--- ---- the loop: k values went in, and the rest will
-pub record Flows (c : ℕ) (gone : Bool) (values : List ℤ) (end : Stream) (cells : List ℤ) (h : Channel) (n k : ℕ) : Type 0 where
-  pub within : k ≤ length values
-  pub long : length cells ≡ 8192
-  pub roomy : h.held ≤ h.capacity
-  pub rest : pour_of c gone (drop k values) (stream k h n cells) ≡ end
-
-module _ (c : ℕ) (gone : Bool) (values : List ℤ) (end : Stream) (cells : List ℤ) (h : Channel) (n k : ℕ) (f : Flows c gone values end cells h n k) where
+module _ (c : ℕ) (vs : List ℤ) (k : ℕ) (w : World) where
   -- all went in
-  pub flows_all : length values ≤ k → stream k h n cells ≡ end
-  unfolding pour_of
-  flows_all l = sym (ap (λ (vs : List ℤ). pour_of c gone vs (stream k h n cells)) (drop_of_length-le values l)) ∙ f.rest
+  pub all_in : length vs ≤ k → further k (feeds_of c (drop k vs) w) ≡ delivery k accepted w
+  unfolding feeds_of
+  all_in l = let e : k + 0 ≡ k = omega arith in rw (drop_of_length-le vs l, e)
 
-  module _ (more : k < length values) where
-    -- the channel is full
-    pub flows_full : full gone h ≡ true → stream k h n cells ≡ end
-    unfolding pour_of
-    flows_full e = sym (rw (drop-cons values k (pos 0) more, e)) ∙ f.rest
+  module _ (sound : sound_of w.lane ≡ true) (there : c < w.lane.network.channels) (outer : sender_of w.lane.network c ≡ outside) (long : length w.cells ≡ 8192) (more : k < length vs) {w' : World} where
+    -- one more goes in
+    pub one_in : called accepted w' ≡ fed_or_not c (get_or vs k (pos 0)) w → further k (feeds_of c (drop k vs) w) ≡ further (k + 1) (feeds_of c (drop (k + 1) vs) w')
+    unfolding feeds_of
+    one_in e =
+        let rest = feeds_of c (drop (suc k) vs) w' in
+        let f : k + suc rest.fed ≡ suc k + rest.fed = omega arith in
+        rw (drop-cons vs k (pos 0) more, feed_there c w sound there (get_or vs k (pos 0)) long outer, ← e) (ap (λ (n : ℕ). delivery n rest.answer rest.world) f)
+        ∙ ap (λ (j : ℕ). further j (feeds_of c (drop j vs) w')) (sym (add-one k))
 
-    -- one more
-    on : full gone h ≡ false → pour_of c gone (drop (k + 1) values) (pour_one c gone (get_or values k (pos 0)) (stream k h n cells)) ≡ end
-    unfolding pour_of
-    on e = ap (λ (j : ℕ). pour_of c gone (drop j values) (pour_one c gone (get_or values k (pos 0)) (stream k h n cells))) (add-one k) ∙ sym (rw (drop-cons values k (pos 0) more, e)) ∙ f.rest
-
-    -- with the receiver ended or not
-    on_with : full gone h ≡ false → (g : Bool) → gone ≡ g → pour_of c gone (drop (k + 1) values) (pour_one c g (get_or values k (pos 0)) (stream k h n cells)) ≡ end
-    on_with e g q = ap (λ (b : Bool). pour_of c gone (drop (k + 1) values) (pour_one c b (get_or values k (pos 0)) (stream k h n cells))) (sym q) ∙ on e
-
-    pub flows_room : full gone h ≡ false → gone ≡ false → h.held < h.capacity
-    flows_room e g = room gone h f.roomy e g
-
-    pub flows_gone : full gone h ≡ false → gone ≡ true → Flows c gone values end cells h (counted n) (k + 1)
-    flows_gone e g = record { within = omega arith; long = f.long; roomy = f.roomy; rest = on_with e true g }
-
-    pub flows_put : full gone h ≡ false → gone ≡ false
-        → Flows c gone values end (set cells (slot c h h.held) (get_or values k (pos 0))) (put_one h) (counted n) (k + 1)
-    flows_put e g =
-        record {
-          within = omega arith;
-          long = length-set cells _ _ ∙ f.long;
-          roomy = omega (arith, flows_room e g);
-          rest = on_with e false g;
-        }
-
--- ---- the loop is single feeds
--- channel c of the lane is there and comes from outside; its receiver has ended or not
-pub record Outer (c : ℕ) (l : Lane) (gone : Bool) : Type 0 where
-  pub low : c < length l.channels
-  pub there : c < l.network.channels
-  pub outer : sender_of l.network c ≡ outside
-  pub ended : receiver_ended c (world l []) ≡ gone
-
--- what the tests 15, 16 and 11 look at, in the loop
-pub record Ready (c : ℕ) (l : Lane) (s : Stream) : Type 0 where
-  pub long : length s.cells ≡ 8192
-  pub sound : sound_of (poured c l s).lane ≡ true
-  pub unclosed : s.channel.closed ≡ false
-
--- what single feeds leave, and what the loop does
-pub record Ends (c : ℕ) (l : Lane) (n : ℕ) (s end : Stream) (b : Delivery) : Type 0 where
-  pub fed : end.fed ≡ s.fed + b.fed
-  pub answer : b.answer ≡ stopped b.fed n
-  pub left : b.world ≡ poured c l end
-
-stopped_suc : (a n : ℕ) → stopped (suc a) (suc n) ≡ stopped a n
-stopped_suc a n = go (dec_lt a n)
-  where
-    go : Dec (a < n) → stopped (suc a) (suc n) ≡ stopped a n
-    go (yes d) = rw (lt-ltb (suc a) (suc n) (omega arith), lt-ltb a n d)
-    go (no d) = rw (le-ltb (suc a) (suc n) (omega arith), le-ltb a n (omega arith))
-
-stopped_none : (n : ℕ) → stopped 0 (suc n) ≡ refused 10
-stopped_none n = rw (lt-ltb 0 (suc n) (omega arith))
-
--- a test that passes
-pub pass : (bad : Bool) (k : ℕ) (w : World) (next : Called) → bad ≡ false → refuse bad k w next ≡ next
-pass bad k w next e = ap (λ (b : Bool). refuse b k w next) e
-
-module _ (c : ℕ) (l : Lane) (gone : Bool) (o : Outer c l gone) where
-  channel_is : (s : Stream) → get_or (set l.channels c s.channel) c no_channel ≡ s.channel
-  channel_is s = get_or-set_same l.channels c s.channel no_channel o.low
-
-  -- a feed passes all tests but the last
-  feed_is : (s : Stream) (v : ℤ) → Ready c l s
-      → feed_of c v (poured c l s) ≡ refuse (full gone s.channel) 10 (poured c l s) (called accepted (counting (stored c v (poured c l s))))
-  unfolding feed_of
-  feed_is s v r =
-      let w = poured c l s in
-      pass (cells_wrong w) 15 w _ (ap not (eq-eqb (length s.cells) 8192 r.long))
-      ∙ pass (unsound w) 16 w _ (ap not r.sound)
-      ∙ pass (no_channel_there c w) 8 w _ (ap not (lt-ltb c l.network.channels o.there))
-      ∙ pass (sender_inside c w) 9 w _ (ap not (eq-eqb (sender_of l.network c) outside o.outer))
-      ∙ pass (is_closed c w) 11 w _ (ap (λ (h : Channel). h.closed) (channel_is s) ∙ r.unclosed)
-      ∙ ap (λ (f : Bool). refuse f 10 w (called accepted (counting (stored c v w)))) (ap₂ full o.ended (channel_is s))
-
-  -- a full channel
-  stops : (s : Stream) (v : ℤ) → Ready c l s → full gone s.channel ≡ true → feed_of c v (poured c l s) ≡ called (refused 10) (poured c l s)
-  stops s v r e = feed_is s v r ∙ ap (λ (f : Bool). refuse f 10 (poured c l s) (called accepted (counting (stored c v (poured c l s))))) e
-
-  -- a value that goes in
-  stored_is : (s : Stream) (v : ℤ) (g : Bool) → gone ≡ g → counting (stored c v (poured c l s)) ≡ poured c l (pour_one c g v s)
-  stored_is s v true e = rw (o.ended ∙ e)
-  stored_is s v false e = rw (o.ended ∙ e, channel_is s, set-set l.channels c s.channel (put_one s.channel))
-
-  closed_is : (s : Stream) (v : ℤ) (g : Bool) → (pour_one c g v s).channel.closed ≡ s.channel.closed
-  closed_is s v true = refl
-  closed_is s v false = refl
-
-  goes : (s : Stream) (v : ℤ) → Ready c l s → full gone s.channel ≡ false → feed_of c v (poured c l s) ≡ called accepted (poured c l (pour_one c gone v s))
-  goes s v r f = feed_is s v r ∙ rw f (ap (called accepted) (stored_is s v gone refl))
-
-  ready_on : (s : Stream) (v : ℤ) → Ready c l s → full gone s.channel ≡ false → Ready c l (pour_one c gone v s)
-  ready_on s v r f =
-      let k = feed_kept (poured c l s) c v in
-      let e = ap (λ (d : Called). d.world) (goes s v r f) in
-      record {
-        long = ap (λ (w : World). length w.cells) (sym e) ∙ k.cells ∙ r.long;
-        sound = ap (λ (w : World). sound_of w.lane) (sym e) ∙ k.sound r.sound;
-        unclosed = closed_is s v gone ∙ r.unclosed;
-      }
-
-  pub pour_feeds : (vs : List ℤ) (s : Stream) → Ready c l s → Ends c l (length vs) s (pour_of c gone vs s) (feeds_of c vs (poured c l s))
-  unfolding pour_of feeds_of
-  pour_feeds [] s r = record { fed = omega arith; answer = refl; left = refl }
-  pour_feeds (v ∷ vs) s r = go (full gone s.channel) refl (pour_feeds vs (pour_one c gone v s))
-    where
-      go : (f : Bool) → full gone s.channel ≡ f
-          → (Ready c l (pour_one c gone v s) → Ends c l (length vs) (pour_one c gone v s) (pour_of c gone vs (pour_one c gone v s)) (feeds_of c vs (poured c l (pour_one c gone v s))))
-          → Ends c l (suc (length vs)) s (cond f s (pour_of c gone vs (pour_one c gone v s))) (onward (feed_of c v (poured c l s)) (feeds_of c vs (feed_of c v (poured c l s)).world))
-      go true e later = rw (stops s v r e) (record { fed = omega arith; answer = sym (stopped_none (length vs)); left = refl })
-      go false e later =
-          let i = later (ready_on s v r e) in
-          rw (goes s v r e) (record { fed = omega (arith, i.fed); answer = i.answer ∙ sym (stopped_suc (feeds_of c vs (poured c l (pour_one c gone v s))).fed (length vs)); left = i.left })
+    -- the next is refused
+    pub next_refused : {n : ℕ} → called (refused n) w' ≡ fed_or_not c (get_or vs k (pos 0)) w → further k (feeds_of c (drop k vs) w) ≡ delivery k (refused n) w'
+    unfolding feeds_of
+    next_refused e =
+        let z : k + 0 ≡ k = omega arith in
+        rw (drop-cons vs k (pos 0) more, feed_there c w sound there (get_or vs k (pos 0)) long outer, ← e, z)

@@ -11,22 +11,21 @@ use borrow.Author.Tests.{lt-ltb, eq-eqb, ltb-true, eqb-true, eqb-false, not-fals
 use lib.Dec.{eqb, ltb}
 use lib.IntN.{ℤ}
 use lib.ListN.{length, get_or-eq_default}
+use lib.Seq.{set-get_or}
 use Rattle.process.specs.declared.Channel.{Channel}
 use Rattle.process.specs.Channels.{no_channel, put_one}
 use Rattle.lane.specs.declared.Lane.{Lane}
-use Rattle.lane.specs.State.{World, channel_of}
+use Rattle.lane.specs.State.{World, world, channel_of, put_channels}
 use Rattle.lane.specs.Sound.{sound_of}
 use Rattle.lane.specs.Calls.{Told, accepted, refused, Called, receiver_ended, feed_of}
 use Rattle.lane.proofs.CallCases.{feed_cases}
 use Rattle.lane.proofs.SoundLaws.{sound_says}
-use Rattle.call_parts.specs.Tests.{Opened}
 use Rattle.bursts.specs.Bursts.{Delivery, delivery, is_accepted, feeds_of, burst_of}
+use Rattle.bursts.proofs.Streams.{Stream, stream, pour_one, pour_of, poured, Outer, Ready, pour_feeds}
+use Rattle.bursts.proofs.Ways.{burst_open}
 use Rattle.bursts.specs.Singly.{Open, room_in, room_for, stopped, AsManyAsFit, ThenOnlyFull}
-use Rattle.bursts.specs.Pouring.{Stream, stream, pour_one, pour_of}
-use Rattle.bursts.proofs.Pours.{Outer}
-use Rattle.bursts.proofs.Ways.{burst_none, burst_poured}
 
--- ---- in the loop
+-- ---- on one channel
 pour_room : (c : ℕ) (gone : Bool) (vs : List ℤ) (s : Stream) → s.channel.held ≤ s.channel.capacity
     → (pour_of c gone vs s).fed ≡ s.fed + room_in gone (length vs) s.channel
 unfolding pour_of
@@ -54,40 +53,33 @@ channel_there l c s t = at (dec_lt c (length l.channels))
         let e : (channel_of l c).capacity ≡ 0 = ap (λ (h : Channel). h.capacity) (get_or-eq_default l.channels no_channel (omega arith)) in
         absurd (omega arith)
 
-module _ (c : ℕ) (w : World) (o : Open c w) where
-  opens : Opened (length w.cells) w.lane c w.lane.network.channels
-  opens = record { long = eqb-true _ _ (not-false _ o.cells); sound = not-false _ o.sound; there = ltb-true _ _ (not-false _ o.there) }
+module _ (c : ℕ) (vs : List ℤ) (w : World) (o : Open c w) where
+  sound : sound_of w.lane ≡ true
+  sound = not-false _ o.sound
+
+  there : c < w.lane.network.channels
+  there = ltb-true _ _ (not-false _ o.there)
+
+  long : length w.cells ≡ 8192
+  long = eqb-true _ _ (not-false _ o.cells)
 
   outer : Outer c w.lane (receiver_ended c w)
-  outer =
-      record {
-        low = channel_there w.lane c opens.sound opens.there;
-        there = opens.there;
-        outer = eqb-true _ _ (not-false _ o.outer);
-        ended = refl;
-      }
+  outer = record { low = channel_there w.lane c sound there; there = there; outer = eqb-true _ _ (not-false _ o.outer); ended = refl }
 
-  no_room : (gone : Bool) (h : Channel) → room_in gone 0 h ≡ 0
-  no_room true h = refl
-  no_room false h = omega arith
-
-  -- of a list that is empty, and of one that is not
-  fits : (vs : List ℤ) → ((burst_of c vs w).fed ≡ room_for c (length vs) w) × ((burst_of c vs w).answer ≡ stopped (room_for c (length vs) w) (length vs))
-  fits [] =
-      let e = burst_none c w opens o.outer [] refl in
-      let z = no_room (receiver_ended c w) (channel_of w.lane c) in
-      (ap (λ (b : Delivery). b.fed) e ∙ sym z, ap (λ (b : Delivery). b.answer) e ∙ ap (λ (k : ℕ). stopped k 0) (sym z))
-  fits (v ∷ vs) =
+  fits : ((burst_of c vs w).fed ≡ room_for c (length vs) w) × ((burst_of c vs w).answer ≡ stopped (room_for c (length vs) w) (length vs))
+  fits =
       let l : Lane = w.lane in
       let s : Stream = stream 0 (channel_of l c) l.accepted w.cells in
-      let some : length (v ∷ vs) ≡ 0 → ⊥ = λ z. omega arith in
-      let e = burst_poured c l (receiver_ended c w) outer w.cells (v ∷ vs) some opens o.unclosed (pour_of c (receiver_ended c w) (v ∷ vs) s) refl in
-      let f = pour_room c (receiver_ended c w) (v ∷ vs) s ((sound_says l opens.sound).channels c opens.there).within in
-      let q : (pour_of c (receiver_ended c w) (v ∷ vs) s).fed ≡ room_for c (length (v ∷ vs)) w = omega (arith, f) in
-      (ap (λ (b : Delivery). b.fed) (sym e) ∙ q, ap (λ (b : Delivery). b.answer) (sym e) ∙ ap (λ (k : ℕ). stopped k (length (v ∷ vs))) q)
+      let same : poured c l s ≡ w = ap (λ (hs : List Channel). world (put_channels hs l) w.cells) (set-get_or l.channels c no_channel) in
+      let ready : Ready c l s = record { long = long; sound = ap (λ (x : World). sound_of x.lane) same ∙ sound; unclosed = o.unclosed } in
+      let e = pour_feeds c l (receiver_ended c w) outer vs s ready in
+      let f = pour_room c (receiver_ended c w) vs s ((sound_says l sound).channels c there).within in
+      let b : burst_of c vs w ≡ feeds_of c vs (poured c l s) = burst_open c vs w long sound there outer.outer ∙ ap (feeds_of c vs) (sym same) in
+      let n : (feeds_of c vs (poured c l s)).fed ≡ room_for c (length vs) w = omega (arith, e.fed, f) in
+      (ap (λ (d : Delivery). d.fed) b ∙ n, ap (λ (d : Delivery). d.answer) b ∙ e.answer ∙ ap (λ (k : ℕ). stopped k (length vs)) n)
 
 pub as_many_as_fit : AsManyAsFit
-as_many_as_fit c vs w o = fits c w o vs
+as_many_as_fit = fits
 
 -- ---- once one went in, the tests have passed
 abbrev Opens : ℕ → World → Called → Type 0

@@ -1,3 +1,2 @@
 pub mod Bursts
 pub mod Singly
-pub mod Pouring

@@ -1,154 +1,82 @@
-// A burst of values for one channel, from outside (document 02, request 1): as single feeds one after the other, until one is refused. The tests are made
-// once, and then the values go in one by one, in place.
+// A burst of values for one channel, from outside (document 02, request 1): single feeds one after the other, until one is refused, behind the tests of
+// one.
 #![tactic(auto)]
 
-ghost use Rattle.std.specs.Prelude.{◌≡◌, List, ℕ, ◌≤◌, ◌<◌, ℤ, length};
-ghost use Rattle.process.specs.Execute.{full};
+ghost use Rattle.std.specs.Prelude.{◌≡◌, List, ◌<◌, ℤ, length, IfOk, IfErr, Err};
+ghost use Rattle.base.specs.Refusals.{number_of};
+ghost use Rattle.network.specs.Rules.{sender_of, outside};
 ghost use Rattle.lane.specs.State.{world};
-ghost use Rattle.lane.specs.Calls.{feed_told};
-ghost use Rattle.call_parts.specs.Tests.{Opened};
-ghost use Rattle.bursts.specs.Bursts.{delivery, burst_of};
-ghost use Rattle.bursts.specs.Singly.{stopped};
-ghost use Rattle.bursts.specs.Pouring.{stream, pour_of, poured};
+ghost use Rattle.lane.specs.Calls.{feed_told, refused};
+ghost use Rattle.bursts.specs.Bursts.{delivery, feeds_of, burst_of};
 
 use base::Refusal;
-use call_parts::Tested;
-use lane::{FeedAnswer, Lane};
-use process::Channel;
+use lane::{Lane, SoundLane};
 
-// What a burst leaves: how many values went in; accepted, or the refusal of the first that did not.
+// What a burst leaves: how many values went in; and the refusal of the first that did not, if it stopped early.
 #[derive(Drop)]
 pub struct Delivered {
     pub lane: Lane,
     pub fed: usize,
-    pub answer: FeedAnswer,
+    pub answer: Result<(), Refusal>,
 }
 
-// What the loop leaves: how many values went in, the channel, the count of accepted calls.
-#[derive(Clone, Copy)]
-struct Poured {
-    fed: usize,
-    channel: Channel,
-    accepted: u64,
-}
-
-// ---- the loop
-// The channel has no room; one whose receiver has ended always has.
-fn is_full(h: Channel, gone: bool) -> bool
-    ensures { result ≡ full gone h }
+// The tests of a burst at channel c, from 16 on: the lane, sound, where the channel comes from outside, or how every burst there is refused.
+#[tactic(auto, using(crate::proofs::Ways::burst_tested))]
+fn opened(lane: Lane, c: usize) -> Result<SoundLane, Refusal>
+    ensures open { IfOk result (λ s. (s.lane ≡ lane) × (c < lane.network.channels) × (sender_of lane.network c ≡ outside)) }
+    ensures refused { IfErr result (λ r. (vs cells : List ℤ) → length cells ≡ 8192 → burst_of c vs (world lane cells) ≡ delivery 0 (refused (number_of r)) (world lane cells)) }
 {
-    if gone {
-        return false;
-    }
-    h.held == h.capacity
+    let sound = lane_sound::tested(lane)?;
+    call_parts::outer(&sound, &sound.lane.network.sender, c)?;
+    Ok(sound)
 }
 
-// Values into channel c, until it is full; one whose receiver has ended never is, and stores nothing.
-fn pour(
-    cells: &mut [i32],
-    c: usize,
-    channel: Channel,
-    gone: bool,
-    accepted: u64,
-    values: &[i32],
-) -> Poured
-    requires { (c < 32) × (length cells.old ≡ 8192) × (channel.held ≤ channel.capacity) }
-    ensures { stream result.fed result.channel result.accepted cells.new ≡ pour_of c gone values.now (stream 0 channel accepted cells.old) }
+// Values into channel c, which is there and comes from outside, until one is refused.
+#[tactic(auto, using(crate::proofs::Pours::all_in, crate::proofs::Pours::one_in, crate::proofs::Pours::next_refused))]
+fn pour(mut sound: SoundLane, cells: &mut [i32; 8192], c: usize, values: &[i32]) -> Delivered
+    requires { (c < sound.lane.network.channels) × (sender_of sound.lane.network c ≡ outside) }
+    ensures { delivery result.fed (feed_told result.answer) (world result.lane cells.new) ≡ feeds_of c values.now (world sound.lane cells.old) }
 {
-    let mut h = channel;
-    let mut n = accepted;
-    let mut k: usize = 0;
-    while k < values.len() {
-        if is_full(h, gone) {
-            break;
+    let gone = lane_parts::ended_at(&sound.lane, sound.lane.network.receiver[c]);
+    let mut fed = 0;
+    for &v in values {
+        if let Err(r) = lent_calls::feed_to(&mut sound, cells, c, gone, v) {
+            return Delivered {
+                lane: sound.lane,
+                fed,
+                answer: Err(r),
+            };
         }
-        let v = values[k];
-        k += 1;
-        n = process::counted(n);
-        if !gone {
-            cells[lane_parts::slot(c, h, h.held)] = v;
-            h = h.put();
-        }
+        fed += 1;
     }
-    Poured {
-        fed: k,
-        channel: h,
-        accepted: n,
-    }
-}
-
-// ---- what is left, and the answer
-// The lane with what the loop left of its channel c and of its count.
-fn settle(lane: Lane, c: usize, p: Poured) -> Lane
-    requires { c < 32 }
-    ensures { (n : ℕ) → (cells : List ℤ) → world result cells ≡ poured c lane (stream n p.channel p.accepted cells) }
-{
-    let mut channels = lane.channels;
-    let h = p.channel;
-    channels[c] = h;
-    let mut l = lane;
-    l.channels = channels;
-    l.accepted = p.accepted;
-    l
-}
-
-// All of n values went in, or the next one found the channel full.
-fn answer_of(fed: usize, n: usize) -> FeedAnswer
-    ensures { feed_told result ≡ stopped fed n }
-{
-    if fed < n {
-        return FeedAnswer::Refused(Refusal::Full);
-    }
-    FeedAnswer::Accepted
-}
-
-// No value went in: the lane is as it came, and nothing is counted.
-fn none_fed(lane: Lane, answer: FeedAnswer) -> Delivered
-    ensures { result ≡ record { lane = lane; fed = 0; answer = answer } }
-{
-    let l = lane;
     Delivered {
-        lane: l,
+        lane: sound.lane,
+        fed,
+        answer: Ok(()),
+    }
+}
+
+// A test refuses the burst: no value went in, and the lane is as it came.
+fn none_fed(lane: Lane, r: Refusal) -> Delivered
+    ensures { result ≡ record { lane = lane; fed = 0; answer = Err r } }
+{
+    Delivered {
+        lane,
         fed: 0,
-        answer,
-    }
-}
-
-// ---- the burst
-// At a channel that is there, of a lane that is sound, with its cells.
-fn burst_there(lane: Lane, cells: &mut [i32], c: usize, values: &[i32]) -> Delivered
-    requires { Opened (length cells.old) lane c lane.network.channels }
-    ensures { delivery result.fed (feed_told result.answer) (world result.lane cells.new) ≡ burst_of c values.now (world lane cells.old) }
-{
-    let sender = lane.network.sender;
-    if sender[c] != 255 {
-        return none_fed(lane, FeedAnswer::Refused(Refusal::Inside));
-    }
-    if values.len() == 0 {
-        return none_fed(lane, FeedAnswer::Accepted);
-    }
-    let channels = lane.channels;
-    let h = channels[c];
-    if h.closed {
-        return none_fed(lane, FeedAnswer::Refused(Refusal::Closed));
-    }
-    let gone = call_parts::receiver_ended(lane, c);
-    let p = pour(cells, c, h, gone, lane.accepted, values);
-    let l = settle(lane, c, p);
-    let answer = answer_of(p.fed, values.len());
-    Delivered {
-        lane: l,
-        fed: p.fed,
-        answer,
+        answer: Err(r),
     }
 }
 
 // Values from outside into channel c, until one is refused.
+#[tactic(auto, using(crate::proofs::Ways::burst_tested, crate::proofs::Ways::burst_open))]
 pub fn burst(lane: Lane, cells: &mut [i32], c: usize, values: &[i32]) -> Delivered
     ensures { delivery result.fed (feed_told result.answer) (world result.lane cells.new) ≡ burst_of c values.now (world lane cells.old) }
 {
-    match call_parts::opened(cells.len(), lane, c, lane.network.channels) {
-        Tested::Refused(r) => none_fed(lane, FeedAnswer::Refused(r)),
-        Tested::Passed => burst_there(lane, cells, c, values),
+    let Some(cells) = cells.as_mut_array::<8192>() else {
+        return none_fed(lane, Refusal::Buffer);
+    };
+    match opened(lane, c) {
+        Ok(sound) => pour(sound, cells, c, values),
+        Err(r) => none_fed(lane, r),
     }
 }

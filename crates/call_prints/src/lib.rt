@@ -4,4 +4,6 @@
 
 pub mod changes;
 pub mod shows;
-pub mod words;
+
+// Whether all was printed.
+pub type Printed = std::io::Result<()>;

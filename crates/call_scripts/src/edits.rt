@@ -1,5 +1,5 @@
 // Changes of a lane by hand, as a script has them: to any values, since the calls must answer on every lane (docs/SCRIPTS.md).
-use crate::script::{fits, number_at, value_at};
+use crate::script::{fits, number_at, up_to};
 use lane::Standing;
 use process::{Channel, Condition};
 
@@ -27,149 +27,98 @@ pub enum Edit {
     Channel(usize, Channel),
     Cell(usize, i32),
     Accepted(u64),
-    Bad,
 }
 
-// ---- an edit in words. Its numbers are those of its form, and `within` has tested them, so that no remainder changes one.
-fn within(words: &[u8], n: usize, most: u64) -> bool {
-    number_at(words, n) <= most
+fn network_of(words: &[u8]) -> Option<Edit> {
+    Some(Edit::Network {
+        processes: number_at(words, 1)?,
+        channels: number_at(words, 2)?,
+    })
 }
 
-fn size(words: &[u8], n: usize) -> usize {
-    number_at(words, n) as usize
+fn slot_of(words: &[u8]) -> Option<Edit> {
+    Some(Edit::Slot {
+        k: up_to(words, 1, 15)?,
+        first: number_at(words, 3)?,
+        count: number_at(words, 5)?,
+    })
 }
 
-fn short(words: &[u8], n: usize) -> u16 {
-    (number_at(words, n) % 65536) as u16
+fn record_of(words: &[u8]) -> Option<Edit> {
+    Some(Edit::Record {
+        k: up_to(words, 1, 31)?,
+        sender: number_at(words, 3)?,
+        receiver: number_at(words, 5)?,
+        capacity: number_at(words, 7)?,
+    })
 }
 
-fn byte(words: &[u8], n: usize) -> u8 {
-    (number_at(words, n) % 256) as u8
+fn byte_of(words: &[u8]) -> Option<Edit> {
+    Some(Edit::Byte(up_to(words, 1, 4063)?, number_at(words, 2)?))
 }
 
-fn network_of(words: &[u8]) -> Edit {
-    Edit::Network {
-        processes: size(words, 1),
-        channels: size(words, 2),
-    }
-}
-
-fn slot_of(words: &[u8]) -> Edit {
-    if within(words, 1, 15) && (within(words, 3, 65535) && within(words, 5, 65535)) {
-        return Edit::Slot {
-            k: size(words, 1),
-            first: short(words, 3),
-            count: short(words, 5),
-        };
-    }
-    Edit::Bad
-}
-
-fn record_of(words: &[u8]) -> Edit {
-    if within(words, 1, 31)
-        && (within(words, 3, 255) && (within(words, 5, 255) && within(words, 7, 65535)))
-    {
-        return Edit::Record {
-            k: size(words, 1),
-            sender: byte(words, 3),
-            receiver: byte(words, 5),
-            capacity: short(words, 7),
-        };
-    }
-    Edit::Bad
-}
-
-fn byte_of(words: &[u8]) -> Edit {
-    if within(words, 1, 4063) && within(words, 2, 255) {
-        return Edit::Byte(size(words, 1), byte(words, 2));
-    }
-    Edit::Bad
-}
-
-fn process_of(words: &[u8], condition: Condition) -> Edit {
+fn process_of(words: &[u8], condition: Condition) -> Option<Edit> {
     let standing = Standing {
-        position: short(words, 3),
+        position: number_at(words, 3)?,
         condition,
-        moves: number_at(words, 6),
+        moves: number_at(words, 6)?,
     };
-    if within(words, 1, 15) && within(words, 3, 65535) {
-        return Edit::Process(size(words, 1), standing);
-    }
-    Edit::Bad
+    Some(Edit::Process(up_to(words, 1, 15)?, standing))
 }
 
-fn register_of(words: &[u8]) -> Edit {
-    if within(words, 1, 127) {
-        return Edit::Register(size(words, 1), value_at(words, 2));
-    }
-    Edit::Bad
+fn register_of(words: &[u8]) -> Option<Edit> {
+    Some(Edit::Register(up_to(words, 1, 127)?, number_at(words, 2)?))
 }
 
-fn channel_of(words: &[u8], closed: bool) -> Edit {
+fn channel_of(words: &[u8], closed: bool) -> Option<Edit> {
     let channel = Channel {
-        capacity: short(words, 3),
-        oldest: short(words, 5),
-        held: short(words, 7),
-        peak: short(words, 9),
+        capacity: number_at(words, 3)?,
+        oldest: number_at(words, 5)?,
+        held: number_at(words, 7)?,
+        peak: number_at(words, 9)?,
         closed,
     };
-    if within(words, 1, 31)
-        && (within(words, 3, 65535)
-            && (within(words, 5, 65535) && (within(words, 7, 65535) && within(words, 9, 65535))))
-    {
-        return Edit::Channel(size(words, 1), channel);
-    }
-    Edit::Bad
+    Some(Edit::Channel(up_to(words, 1, 31)?, channel))
 }
 
-fn cell_of(words: &[u8]) -> Edit {
-    if within(words, 1, 8192) {
-        return Edit::Cell(size(words, 1), value_at(words, 2));
-    }
-    Edit::Bad
+fn cell_of(words: &[u8]) -> Option<Edit> {
+    Some(Edit::Cell(up_to(words, 1, 8192)?, number_at(words, 2)?))
 }
 
 // An edit of the lane's state.
-fn state_of(words: &[u8]) -> Edit {
+fn state_of(words: &[u8]) -> Option<Edit> {
     if fits(words, b"process N position N live moves N") {
-        return process_of(words, Condition::Live);
+        process_of(words, Condition::Live)
+    } else if fits(words, b"process N position N stopped moves N") {
+        process_of(words, Condition::Stopped)
+    } else if fits(words, b"process N position N faulted moves N") {
+        process_of(words, Condition::Faulted)
+    } else if fits(words, b"register N V") {
+        register_of(words)
+    } else if fits(words, b"channel N capacity N oldest N held N peak N open") {
+        channel_of(words, false)
+    } else if fits(words, b"channel N capacity N oldest N held N peak N closed") {
+        channel_of(words, true)
+    } else if fits(words, b"cell N V") {
+        cell_of(words)
+    } else if fits(words, b"accepted N") {
+        Some(Edit::Accepted(number_at(words, 1)?))
+    } else {
+        None
     }
-    if fits(words, b"process N position N stopped moves N") {
-        return process_of(words, Condition::Stopped);
-    }
-    if fits(words, b"process N position N faulted moves N") {
-        return process_of(words, Condition::Faulted);
-    }
-    if fits(words, b"register N V") {
-        return register_of(words);
-    }
-    if fits(words, b"channel N capacity N oldest N held N peak N open") {
-        return channel_of(words, false);
-    }
-    if fits(words, b"channel N capacity N oldest N held N peak N closed") {
-        return channel_of(words, true);
-    }
-    if fits(words, b"cell N V") {
-        return cell_of(words);
-    }
-    if fits(words, b"accepted N") {
-        return Edit::Accepted(number_at(words, 1));
-    }
-    Edit::Bad
 }
 
-pub fn edit_of(words: &[u8]) -> Edit {
+// An edit in words; None where it has no form of the page, or a number past its limit.
+pub fn edit_of(words: &[u8]) -> Option<Edit> {
     if fits(words, b"network N N") {
-        return network_of(words);
+        network_of(words)
+    } else if fits(words, b"slot N first N count N") {
+        slot_of(words)
+    } else if fits(words, b"record N sender N receiver N capacity N") {
+        record_of(words)
+    } else if fits(words, b"byte N N") {
+        byte_of(words)
+    } else {
+        state_of(words)
     }
-    if fits(words, b"slot N first N count N") {
-        return slot_of(words);
-    }
-    if fits(words, b"record N sender N receiver N capacity N") {
-        return record_of(words);
-    }
-    if fits(words, b"byte N N") {
-        return byte_of(words);
-    }
-    state_of(words)
 }

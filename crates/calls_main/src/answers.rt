@@ -1,49 +1,42 @@
 // Answers of relief, a run and a drive, in words.
-use call_prints::shows::{print, print_number, print_refusal};
-use call_prints::words;
-use drives::{DriveAnswer, End};
-use relief::ReliefAnswer;
-use runs::RunAnswer;
+use base::Refusal;
+use call_prints::Printed;
+use call_prints::shows::print_refusal;
+use drives::{Driven, End};
+use relief::Enlargement;
+use runs::Ran;
 
-pub fn print_relieved(answer: ReliefAnswer) {
+pub fn print_relieved(rt: &impl Print, answer: Result<Enlargement, Refusal>) -> Printed {
     match answer {
-        ReliefAnswer::Enlarged { length, channel } => {
-            print_number(words::ENLARGED, channel as u64);
-            print_number(words::RING, length as u64);
-        }
-        ReliefAnswer::Refused(r) => print_refusal(r),
+        Ok(enlarged) => print!(rt; " enlarged {} ring {}", enlarged.channel, enlarged.length),
+        Err(r) => print_refusal(rt, r),
     }
 }
 
-pub fn print_ran(answer: RunAnswer) {
+pub fn print_ran(rt: &impl Print, answer: Result<Ran, Refusal>) -> Printed {
     match answer {
-        RunAnswer::Ran { moved, enlarged } => {
-            print_number(words::MOVED_SO_MANY, moved);
-            print_number(words::ENLARGED, enlarged);
-        }
-        RunAnswer::Refused(r) => print_refusal(r),
+        Ok(ran) => print!(rt; " moved {} enlarged {}", ran.moved, ran.enlarged),
+        Err(r) => print_refusal(rt, r),
     }
 }
 
-fn print_end(end: End) {
+fn word_of(end: End) -> &'static str {
     match end {
-        End::Settled => print(words::SETTLED),
-        End::Ceiling => print(words::CEILING),
-        End::Spent => print(words::SPENT),
+        End::Settled => "settled",
+        End::Ceiling => "ceiling",
+        End::Spent => "spent",
     }
 }
 
-pub fn print_driven(answer: DriveAnswer) {
+pub fn print_driven(rt: &impl Print, answer: Result<Driven, Refusal>) -> Printed {
     match answer {
-        DriveAnswer::Driven {
-            end,
-            picks,
-            enlarged,
-        } => {
-            print_end(end);
-            print_number(words::PICKS, picks);
-            print_number(words::ENLARGED, enlarged);
+        Ok(driven) => {
+            let end = word_of(driven.end);
+            print!(rt;
+                " {end} picks {} enlarged {}",
+                driven.picks, driven.enlarged
+            )
         }
-        DriveAnswer::Refused(r) => print_refusal(r),
+        Err(r) => print_refusal(rt, r),
     }
 }

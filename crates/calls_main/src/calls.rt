@@ -1,112 +1,69 @@
 // The calls of a script, each with its answer printed.
 use crate::answers::{print_driven, print_ran, print_relieved};
-use crate::lent;
-use call_prints::shows::{print_bytes, print_fed, print_number, print_picked, print_taken};
-use call_prints::words;
-use call_scripts::lines::{Call, Many, bytes_of, values_of};
-use lane::{Fed, Lane, Picked, Taken};
+use base::Refusal;
+use call_prints::Printed;
+use call_prints::shows::{print_bytes, print_fed, print_picked, print_taken};
+use call_scripts::lines::Call;
+use call_scripts::script::numbers_of;
+use lane::{Answered, Lane};
 
-// ---- what is handed back: the answer is printed, the lane goes on
-fn picked(picked: Picked) -> Lane {
-    let answer = picked.answer;
-    print_picked(answer);
-    picked.lane
+// What a call by value hands back: its lane goes on in place of the one that it took.
+fn kept<A>(answered: Answered<A>, lane: &mut Lane) -> Result<A, Refusal> {
+    *lane = answered.lane;
+    answered.answer
 }
 
-fn fed(fed: Fed) -> Lane {
-    let answer = fed.answer;
-    print_fed(answer);
-    fed.lane
-}
-
-fn taken(taken: Taken) -> Lane {
-    let answer = taken.answer;
-    print_taken(answer);
-    taken.lane
-}
-
-// ---- calls with a buffer, bytes, values or a number of picks
-fn relieve_into(lane: Lane, buffer: &mut [u8]) -> Lane {
-    let relieved = relief::relieve(lane, buffer);
-    let answer = relieved.answer;
-    print_relieved(answer);
-    print_bytes(buffer);
-    relieved.lane
-}
-
+// ---- calls with a buffer, bytes or values
 // Each byte of the buffer is 99 before.
-fn relieve(lane: Lane, n: usize) -> Lane {
+fn relieve(rt: &impl Print, lane: &mut Lane, n: usize) -> Printed {
     let mut buffer = [99u8; 32];
-    let start = 0;
-    if 32 < n {
-        return lane;
-    }
-    relieve_into(lane, &mut buffer[start..n])
+    let Some(ring) = buffer.get_mut(..n) else {
+        return Ok(());
+    };
+    print_relieved(rt, kept(relief::relieve(*lane, ring), lane))?;
+    print_bytes(rt, ring)
 }
 
 // The bytes stand in the line.
-fn run(lane: Lane, cells: &mut [i32], line: &[u8]) -> Lane {
-    let mut bytes = [0u8; 256];
-    let Many::Are(n) = bytes_of(line, &mut bytes) else {
-        return lane;
+fn run(rt: &impl Print, lane: &mut Lane, cells: &mut [i32], line: &[u8]) -> Printed {
+    let mut buffer = [0u8; 256];
+    let Some(bytes) = numbers_of(line, 1, &mut buffer) else {
+        return Ok(());
     };
-    if 256 < n {
-        return lane;
-    }
-    let start = 0;
-    let ran = runs::run(lane, cells, &bytes[start..n]);
-    let answer = ran.answer;
-    print_ran(answer);
-    ran.lane
+    print_ran(rt, kept(runs::run(*lane, cells, bytes), lane))
 }
 
 // The values stand in the line.
-fn burst(lane: Lane, cells: &mut [i32], c: usize, line: &[u8]) -> Lane {
-    let mut values = [0i32; 512];
-    let Many::Are(n) = values_of(line, &mut values) else {
-        return lane;
+fn burst(rt: &impl Print, lane: &mut Lane, cells: &mut [i32], c: usize, line: &[u8]) -> Printed {
+    let mut buffer = [0i32; 512];
+    let Some(values) = numbers_of(line, 2, &mut buffer) else {
+        return Ok(());
     };
-    if 512 < n {
-        return lane;
-    }
-    let start = 0;
-    let delivered = bursts::burst(lane, cells, c, &values[start..n]);
-    let answer = delivered.answer;
-    print_number(words::FED, delivered.fed as u64);
-    print_fed(answer);
-    delivered.lane
-}
-
-fn drive(lane: Lane, cells: &mut [i32], picks: u64) -> Lane {
-    let driven = drives::drive(lane, cells, picks);
-    let answer = driven.answer;
-    print_driven(answer);
-    driven.lane
+    let delivered = bursts::burst(*lane, cells, c, values);
+    *lane = delivered.lane;
+    print!(rt; " fed {}", delivered.fed)?;
+    print_fed(rt, delivered.answer)
 }
 
 // ---- every call
-fn called(lane: Lane, cells: &mut [i32], call: Call, line: &[u8]) -> Lane {
+pub fn called(
+    rt: &impl Print,
+    lane: &mut Lane,
+    cells: &mut [i32],
+    call: Call,
+    line: &[u8],
+) -> Printed {
     match call {
-        Call::Pick(p) => picked(lane_calls::pick(lane, cells, p)),
-        Call::Feed(c, v) => fed(lane_calls::feed(lane, cells, c, v)),
-        Call::Burst(c) => burst(lane, cells, c, line),
-        Call::Close(c) => fed(lane_calls::close(lane, c)),
-        Call::Take(c) => taken(lane_calls::take(lane, cells, c)),
-        Call::LentPick(p) => picked(lent::pick(lane, cells, p)),
-        Call::LentFeed(c, v) => fed(lent::feed(lane, cells, c, v)),
-        Call::LentTake(c) => taken(lent::take(lane, cells, c)),
-        Call::Relieve(n) => relieve(lane, n),
-        Call::Run => run(lane, cells, line),
-        Call::Drive(picks) => drive(lane, cells, picks),
-        Call::Bad => lane,
+        Call::Pick(p) => print_picked(rt, kept(lane_calls::pick(*lane, cells, p), lane)),
+        Call::Feed(c, v) => print_fed(rt, kept(lane_calls::feed(*lane, cells, c, v), lane)),
+        Call::Burst(c) => burst(rt, lane, cells, c, line),
+        Call::Close(c) => print_fed(rt, kept(lane_calls::close(*lane, c), lane)),
+        Call::Take(c) => print_taken(rt, kept(lane_calls::take(*lane, cells, c), lane)),
+        Call::LentPick(p) => print_picked(rt, in_place::pick(lane, cells, p)),
+        Call::LentFeed(c, v) => print_fed(rt, in_place::feed(lane, cells, c, v)),
+        Call::LentTake(c) => print_taken(rt, in_place::take(lane, cells, c)),
+        Call::Relieve(n) => relieve(rt, lane, n),
+        Call::Run => run(rt, lane, cells, line),
+        Call::Drive(picks) => print_driven(rt, kept(drives::drive(*lane, cells, picks), lane)),
     }
-}
-
-// A call that is lent the first `room` cells.
-pub fn called_in(lane: Lane, cells: &mut [i32], room: usize, call: Call, line: &[u8]) -> Lane {
-    let start = 0;
-    if cells.len() < room {
-        return lane;
-    }
-    called(lane, &mut cells[start..room], call, line)
 }

@@ -5,185 +5,112 @@
 mod answers;
 mod calls;
 mod edits;
-mod lent;
 
 ghost use Rattle.std.specs.Prelude.{◌≡◌, length};
 
+use call_prints::Printed;
 use call_prints::changes::print_changes;
-use call_prints::shows::print;
-use call_prints::{shows, words};
+use call_prints::shows::{print_hex, print_reading, print_written};
 use call_scripts::edits::Edit;
-use call_scripts::lines;
-use call_scripts::lines::{Call, Line};
-use call_scripts::script::{next, rest};
+use call_scripts::lines::{Call, Line, line_of};
+use call_scripts::script::rest;
 use lane::Lane;
 use std::rt::Files;
 
-// A lane, and how many of the cells are lent to a call. The cells stand beside it, as does a second row of cells: what they were before a call.
+// A lane with its cells, the first `room` of which are lent to a call.
 #[derive(Clone, Copy)]
 struct Desk {
     lane: Lane,
+    cells: [i32; 8193],
     room: usize,
 }
 
-// ---- cells
-fn fill(cells: &mut [i32], v: i32) {
-    let mut k: usize = 0;
-    while k < cells.len() {
-        cells[k] = v;
-        k += 1;
-    }
-}
-
-fn copy(from: &[i32], to: &mut [i32]) {
-    let mut k: usize = 0;
-    while k < from.len() {
-        if to.len() <= k {
-            return;
-        }
-        to[k] = from[k];
-        k += 1;
-    }
-}
-
 // ---- files
-// The lane at the start, of the network of a file, or of no network where it is refused.
-fn fresh(file: &[u8]) -> Lane {
-    let reading = lane_reader::read(file);
-    lane_sound::fresh(reading.network)
+// The fresh lane of the network of a file, or of no network where it is refused.
+fn fresh(file: &[u8]) -> Desk {
+    let network = lane_reader::read(file).unwrap_or(lane_reader::no_network());
+    Desk {
+        lane: lane_sound::fresh(network),
+        cells: [99; 8193],
+        room: 8192,
+    }
 }
 
 // The fresh lane of a file of this folder. The buffer has one byte more than the longest file that is taken, so that a longer one is seen.
-fn start(rt: &impl Files, cells: &mut [i32], name: &[u8]) -> Desk {
+fn start(rt: &impl Files, name: &[u8]) -> Desk {
     let mut file = [0u8; 4609];
     let n = files::load(rt, name, &mut file);
-    fill(cells, 99);
-    Desk {
-        lane: fresh(&file[..n]),
-        room: 8192,
-    }
+    fresh(&file[..n])
 }
 
-fn read(rt: &impl Files, name: &[u8]) {
+fn read(rt: &(impl Files + Print), name: &[u8]) -> Printed {
     let mut file = [0u8; 4609];
     let n = files::load(rt, name, &mut file);
-    let reading = lane_reader::read(&file[..n]);
-    let answer = reading.answer;
-    print(words::COLON);
-    shows::print_reading(answer);
-}
-
-fn write_into(lane: Lane, buffer: &mut [u8]) {
-    let net = lane.network;
-    let answer = lane_writer::write(net, buffer);
-    print(words::COLON);
-    shows::print_written(answer);
-    shows::print_hex(buffer);
+    print!(rt; ":")?;
+    print_reading(rt, lane_reader::read(&file[..n]))
 }
 
 // Each byte of the buffer is 99 before.
-fn write(lane: Lane, n: usize) {
+fn write(rt: &impl Print, lane: &Lane, n: usize) -> Printed {
     let mut buffer = [99u8; 4700];
-    let start = 0;
-    if n <= 4700 {
-        write_into(lane, &mut buffer[start..n]);
-    }
+    let Some(file) = buffer.get_mut(..n) else {
+        return Ok(());
+    };
+    print!(rt; ":")?;
+    print_written(rt, lane_writer::write(lane.network, file))?;
+    print_hex(rt, file)
 }
 
 // ---- calls
+fn changes(rt: &impl Print, before: &Desk, after: &Desk) -> Printed {
+    print_changes(rt, &before.lane, &before.cells, &after.lane, &after.cells)
+}
+
 // A call, and what it changed.
-fn call(desk: Desk, cells: &mut [i32], had: &mut [i32], call: Call, line: &[u8]) -> Desk {
-    let before = desk.lane;
-    let room = desk.room;
-    copy(cells, had);
-    print(words::COLON);
-    let lane = calls::called_in(before, cells, room, call, line);
-    print_changes(before, had, lane, cells);
-    Desk { lane, room }
-}
-
-// All that is not as in the fresh lane of no network with cells of 99.
-fn show(lane: Lane, cells: &[i32], had: &mut [i32]) {
-    fill(had, 99);
-    print_changes(fresh(b""), had, lane, cells);
-}
-
-// The lane changed by hand.
-fn edited(desk: Desk, edit: Edit) -> Desk {
-    let lane = edits::edited(desk.lane, edit);
-    Desk {
-        lane,
-        room: desk.room,
+fn call(rt: &impl Print, desk: &mut Desk, call: Call, line: &[u8]) -> Printed {
+    let before = *desk;
+    print!(rt; ":")?;
+    if let Some(cells) = desk.cells.get_mut(..before.room) {
+        calls::called(rt, &mut desk.lane, cells, call, line)?;
     }
+    changes(rt, &before, desk)
 }
 
-fn make(desk: Desk, cells: &mut [i32], edit: Edit) -> Desk {
-    edits::put(cells, edit);
-    edited(desk, edit)
-}
-
-// A pick of process 0 on a copy that is changed by hand: the cells are put back.
-fn with(desk: Desk, cells: &mut [i32], had: &mut [i32], edit: Edit) {
-    let undo = edits::undoing(cells, edit);
-    edits::put(cells, edit);
-    call(edited(desk, edit), cells, had, Call::Pick(0), b"");
-    copy(had, cells);
-    edits::put(cells, undo);
-}
-
-// The calls that follow are lent so many cells.
-fn lend(desk: Desk, room: usize) -> Desk {
-    let mut d = desk;
-    d.room = room;
-    d
+// A pick of process 0 on a copy that is changed by hand.
+fn with(rt: &impl Print, mut desk: Desk, edit: Edit) -> Printed {
+    edits::edit(&mut desk.lane, &mut desk.cells, edit);
+    call(rt, &mut desk, Call::Pick(0), b"")
 }
 
 // ---- the script
-fn step(rt: &impl Files, desk: Desk, cells: &mut [i32], had: &mut [i32], line: &[u8]) -> Desk {
-    let asked = lines::line_of(line);
+fn step(rt: &(impl Files + Print), desk: &mut Desk, line: &[u8]) -> Printed {
+    let Some(asked) = line_of(line) else {
+        return print!(rt; ": bad line");
+    };
     match asked {
-        Line::Note => desk,
-        Line::Lane => start(rt, cells, rest(line, 5)),
-        Line::Read => {
-            read(rt, rest(line, 5));
-            desk
-        }
-        Line::Write(n) => {
-            write(desk.lane, n);
-            desk
-        }
-        Line::Room(n) => lend(desk, n),
-        Line::Show => {
-            show(desk.lane, cells, had);
-            desk
-        }
-        Line::Calls(asks) => call(desk, cells, had, asks, line),
-        Line::Make(edit) => make(desk, cells, edit),
-        Line::With(edit) => {
-            with(desk, cells, had, edit);
-            desk
-        }
-        Line::Bad => {
-            print(words::BAD_LINE);
-            desk
-        }
+        Line::Note => {}
+        Line::Lane => *desk = start(rt, rest(line, 5)),
+        Line::Read => read(rt, rest(line, 5))?,
+        Line::Write(n) => write(rt, &desk.lane, n)?,
+        Line::Room(n) => desk.room = n,
+        Line::Show => changes(rt, &fresh(b""), desk)?,
+        Line::Calls(asks) => call(rt, desk, asks, line)?,
+        Line::Make(edit) => edits::edit(&mut desk.lane, &mut desk.cells, edit),
+        Line::With(edit) => with(rt, *desk, edit)?,
     }
+    Ok(())
 }
 
 // Each line as it stands, with what is printed after it.
-fn run(rt: &impl Files, text: &[u8], cells: &mut [i32], had: &mut [i32]) {
-    let mut desk = Desk {
-        lane: fresh(b""),
-        room: 8192,
-    };
-    let mut at: usize = 0;
-    while at < text.len() {
-        let end = next(text, at, b'\n');
-        io::write_all(1, &text[at..end]);
-        desk = step(rt, desk, cells, had, &text[at..end]);
-        print(words::NEWLINE);
-        at = end + 1;
+fn run(rt: &(impl Files + Print), text: &[u8]) -> Printed {
+    let mut desk = fresh(b"");
+    for piece in text.split_inclusive(|b| *b == b'\n') {
+        let line = piece.strip_suffix(b"\n").unwrap_or(piece);
+        rt.write_all(line)?;
+        step(rt, &mut desk, line)?;
+        print!(rt; "\n")?;
     }
+    Ok(())
 }
 
 // Room for a script. Only its length is known of it, so that the check does not lay it out byte by byte.
@@ -193,10 +120,9 @@ fn space() -> [u8; 1048576]
     [0; 1048576]
 }
 
+// Where standard output fails nothing more is printed; the program ends as it always does.
 fn main(rt: HostRuntime) {
     let mut text = space();
     let n = io::read_full(0, &mut text);
-    let mut cells = [99i32; 8193];
-    let mut had = [99i32; 8193];
-    run(&rt, &text[..n], &mut cells, &mut had);
+    let _ = run(&rt, &text[..n]);
 }

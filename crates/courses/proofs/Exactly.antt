@@ -2,7 +2,7 @@
 -- Assumes nothing.
 use mathlib.Core.Path.{◌≡◌, refl, sym, ap, ◌∙◌, subst, subst⁻¹}
 use mathlib.Core.Bool.{Bool, true, false, true≢false}
-use mathlib.Core.List.{[], ◌∷◌}
+use mathlib.Core.List.{List, [], ◌∷◌}
 use Prim.Native.Nat.{ℕ, zero, suc, ◌+◌, ◌*◌, ◌/◌, ◌≤◌, ◌<◌}
 use native.Mathlib.Decide.{ℕ_discrete}
 use native.Mathlib.Omega.{arith}
@@ -17,9 +17,9 @@ use Rattle.lane.specs.Pick.{step_for, has_moved}
 use Rattle.lane.specs.Calls.{Called, waiting_full, answer_to, pick_of}
 use Rattle.lane.proofs.SoundLaws.{sound_says}
 use Rattle.lane.proofs.PickLaws.{pick_waits}
-use Rattle.relief.specs.Relief.{refused, relieve_of}
+use Rattle.relief.specs.Relief.{refused, Relief, relieve_of}
+use Rattle.relief.proofs.Enlarged.{relief_cases}
 use Rattle.schedule.specs.Running.{relief_in, has_grown}
-use Rattle.lent_rounds.proofs.Relieved.{ungrown}
 use Rattle.schedule.proofs.Ready.{Ready}
 use Rattle.drives.specs.Drive.{settled, ceiling, spent, Result, drove}
 use Rattle.drives.specs.Drive as drive
@@ -100,6 +100,11 @@ module _ (n : Network) (w : World) (s : Ready n w) where
           by : Dec (q ≡ p) → Still q
           by (yes z) = rw z here
           by (no z) = later q (omega arith) (omega arith)
+
+-- a relief that enlarged nothing leaves the lane as it was
+ungrown : (l : Lane) (buffer : List ℕ) → has_grown (relieve_of l buffer).answer ≡ false → (relieve_of l buffer).lane ≡ l
+ungrown l buffer =
+    relief_cases (λ (r : Relief). has_grown r.answer ≡ false → r.lane ≡ l) l buffer (λ k e. refl) (λ ring c b s e t. absurd (true≢false t))
 
 -- a relief that was refused changes nothing
 refused_same : (l : Lane) (k : ℕ) → (relieve_of l (replicate 16 0)).answer ≡ refused k → (relieve_of l (replicate 16 0)).lane ≡ l

@@ -7,13 +7,13 @@ use Prim.Native.Nat.{ℕ, suc, ◌<◌}
 use native.Mathlib.Omega.{arith}
 use lib.Dec.{eqb}
 use lib.ListN.{length, get_or}
-use borrow.Author.Tests.{eqb-false, eq-eqb}
+use borrow.Author.Tests.{eqb-false, eq-eqb, not-false}
 use Rattle.network.specs.declared.Network.{Network}
 use Rattle.lane.specs.State.{World}
 use Rattle.schedule.specs.Running.{Running, begun}
 use Rattle.schedule.proofs.Ready.{Ready}
 use Rattle.runs.specs.Run.{byte_run, bytes_run, ran, result, some_unnamed, run_of}
-use Rattle.runs.proofs.Stretches.{all_named}
+use Rattle.runs.proofs.Tests.{process_named}
 use Rattle.kahn.specs.Steps.{moved_in, grown_in}
 use Rattle.courses.specs.Courses.{byte_step, byte_steps, RunIs}
 use Rattle.courses.proofs.Inside.{ready_steps, Makes, makes_none, makes_both, makes_relief, makes_pick}
@@ -39,7 +39,7 @@ module _ (n : Network) where
 pub run_ready : (n : Network) (bytes : List ℕ) (w : World) → Ready n w → some_unnamed bytes w ≡ false → RunIs bytes w
 unfolding run_of
 run_ready n bytes w s e =
-    let m = makes_bytes n bytes (begun w) s (λ k l z. rw (ap (λ (x : Network). x.processes) (sym s.same)) (all_named bytes w e k l z)) in
+    let m = makes_bytes n bytes (begun w) s (λ k l z. rw (ap (λ (x : Network). x.processes) (sym s.same)) (process_named bytes w.lane.network.processes (not-false _ e) k l z)) in
     let a : (bytes_run bytes (begun w)).moved ≡ moved_in (byte_steps bytes) w = omega (arith, m.moved) in
     let b : (bytes_run bytes (begun w)).grown ≡ grown_in (byte_steps bytes) w = omega (arith, m.grown) in
     rw (eq-eqb (length w.cells) 8192 s.long, s.sound, e) (λ i. result (ran (a i) (b i)) (m.world i))

@@ -1,6 +1,5 @@
-pub mod Rule
 pub mod RoundLaws
-pub mod Lent
-pub mod Arrays
+pub mod Rule
+pub mod Tests
 pub mod Reliefs
 pub mod Witness

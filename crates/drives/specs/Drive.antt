@@ -11,8 +11,10 @@ use Rattle.relief.specs.Relief as relief
 use Rattle.schedule.specs.Running.{Running, begun, picks, relief_in, relieves}
 use Rattle.drives.specs.declared.End.{End}
 use Rattle.drives.specs.declared.End.TheVariants.{Settled, Ceiling, Spent}
-use Rattle.drives.specs.declared.DriveAnswer.{DriveAnswer}
-use Rattle.drives.specs.declared.DriveAnswer.TheVariants.{Driven, Refused}
+use Rattle.drives.specs.declared.Driven.{Driven}
+use Rattle.std.specs.declared.result.Result.{Result as Answer}
+use Rattle.std.specs.declared.result.Result.TheVariants.{Ok, Err}
+use Rattle.base.specs.declared.Refusal.{Refusal}
 
 -- processes p, p + 1, .., k of them, picked in turn
 abbrev pub turns : ℕ → ℕ → Running → Running
@@ -74,9 +76,9 @@ end_of Ceiling = ceiling
 end_of Spent = spent
 
 -- the answer of the code, in these terms
-abbrev pub told : DriveAnswer → Told
-told (Driven e n g) = drove (end_of e) n g
-told (Refused r) = refused (number_of r)
+abbrev pub told : Answer Driven Refusal → Told
+told (Ok d) = drove (end_of d.end) d.picks d.enlarged
+told (Err r) = refused (number_of r)
 
 pub record Result : Type 0 where
   pub answer : Told

@@ -1,4 +1,3 @@
 pub mod Drive
-pub mod Reliefs
 pub mod Parts
-pub mod Lent
+pub mod Reliefs

@@ -3,9 +3,7 @@
 // `ended`, `little`, `values`, `tests` or `bench`, by its first letter, for a count of its instructions; without one all are made. Prints what they answered.
 #![tactic(auto)]
 
-use bench::BenchAnswer;
 use lane::{Lane, Standing};
-use lane_file::Answer;
 use process::{Channel, Condition};
 use std::env::Env;
 use std::rt::Files;
@@ -13,18 +11,16 @@ use std::rt::Files;
 const OUT: i32 = 1;
 
 fn check_of(bytes: &[u8; 4608]) -> u64 {
-    block_check::check(bytes) as u64
+    u64::from(block_check::check(bytes))
 }
 
 // The check of some bytes, 100 times, each time with another first byte.
 fn checks(file: [u8; 4608]) -> u64 {
     let mut bytes = file;
     let mut sum: u64 = 0;
-    let mut k: u8 = 0;
-    while k < 100 {
+    for k in 0..100 {
         bytes[0] = k;
-        sum = std::num::wrapping_add_u64(sum, check_of(&bytes));
-        k += 1;
+        sum = sum.wrapping_add(check_of(&bytes));
     }
     sum
 }
@@ -32,23 +28,15 @@ fn checks(file: [u8; 4608]) -> u64 {
 // How many of 100 readings are accepted.
 fn readings(file: [u8; 4608]) -> u64 {
     let mut count: u64 = 0;
-    let mut k: u8 = 0;
-    while k < 100 {
-        let reading = lane_reader::read(&file);
-        let answer = reading.answer;
-        if let Answer::Accepted = answer {
-            count = std::num::wrapping_add_u64(count, 1);
-        }
-        k += 1;
+    for _ in 0..100 {
+        count = count.wrapping_add(u64::from(lane_reader::read(&file).is_ok()));
     }
     count
 }
 
 // The fresh lane of a file.
 fn lane_of(file: &[u8]) -> Lane {
-    let reading = lane_reader::read(file);
-    let net = reading.network;
-    lane_sound::fresh(net)
+    lane_sound::fresh(lane_reader::read(file).unwrap_or(lane_reader::no_network()))
 }
 
 // A lane of 16 processes and 32 channels with all processes ended, and so with all channels empty, and closed.
@@ -75,13 +63,9 @@ fn ended(lane: Lane) -> Lane {
 fn sounds(lane: Lane) -> u64 {
     let mut l = lane;
     let mut count: u64 = 0;
-    let mut k: u64 = 0;
-    while k < 100 {
+    for k in 0..100 {
         l.accepted = k;
-        if lane_sound::sound(l) {
-            count = std::num::wrapping_add_u64(count, 1);
-        }
-        k += 1;
+        count = count.wrapping_add(u64::from(lane_sound::sound(&l)));
     }
     count
 }
@@ -93,7 +77,7 @@ fn burst_lane(rt: &impl Files, oldest: u8) -> Lane {
     let mut lane = lane_of(&file);
     lane.channels[0] = Channel {
         capacity: 256,
-        oldest: oldest as u16,
+        oldest: u16::from(oldest),
         held: 0,
         peak: 0,
         closed: false,
@@ -112,10 +96,8 @@ fn value_of(byte: u8) -> i32 {
 // Values that the compiler does not know: by the first bytes of a file.
 fn values_of(file: [u8; 4608]) -> [i32; 256] {
     let mut values = [0i32; 256];
-    let mut k: usize = 0;
-    while k < 256 {
+    for k in 0..256 {
         values[k] = value_of(file[k]);
-        k += 1;
     }
     values
 }
@@ -125,34 +107,21 @@ fn values_of(file: [u8; 4608]) -> [i32; 256] {
 fn deliveries(lane: Lane, values: &[i32]) -> u64 {
     let mut cells = [0i32; 8192];
     let mut sum: u64 = 0;
-    let mut k: u8 = 0;
-    while k < 100 {
+    for k in 0..100 {
         let delivered = bursts::burst(lane, &mut cells, 0, values);
-        sum = std::num::wrapping_add_u64(sum, delivered.fed as u64);
-        if cells[base::wide(k)] != 0 {
-            sum = std::num::wrapping_add_u64(sum, 1);
-        }
-        k += 1;
+        sum = sum
+            .wrapping_add(delivered.fed as u64)
+            .wrapping_add(u64::from(cells[k] != 0));
     }
     sum
 }
 
-// The length of a listing, 0 of a refusal.
-fn length_of(answer: BenchAnswer) -> u64 {
-    match answer {
-        BenchAnswer::Listed(length) => length as u64,
-        BenchAnswer::Refused(_) => 0,
-    }
-}
-
-// The lengths of 10 listings in all.
+// The lengths of 10 listings in all; a refusal has none.
 fn benches(file: &[u8], input: &[u8], picks: &[u8], listing: &mut [u8]) -> u64 {
     let mut sum: u64 = 0;
-    let mut k: u8 = 0;
-    while k < 10 {
-        let length = length_of(bench::bench(file, input, picks, listing));
-        sum = std::num::wrapping_add_u64(sum, length);
-        k += 1;
+    for _ in 0..10 {
+        let length = bench::bench(file, input, picks, listing).unwrap_or(0);
+        sum = sum.wrapping_add(length as u64);
     }
     sum
 }

@@ -6,22 +6,16 @@ ghost use Rattle.base.specs.Tests.{need};
 ghost use Rattle.base.specs.Lists.{table, word_at};
 ghost use Rattle.lane_file.specs.Read.{code_place, network_of, length_right, check_right, checks, header, accepted, told, unless};
 
-use base::{Refusal, Verdict};
-use lane_file::Answer;
+use base::Refusal;
+use lane_file::Refused;
 use network::Network;
 
 // 1: the length of a file.
 fn length_right(n: usize) -> bool
     ensures { result ≡ length_right n }
 {
-    if n % 512 != 0 {
-        return false;
-    }
     let blocks = n / 512;
-    if blocks < 2 {
-        return false;
-    }
-    blocks <= 9
+    n % 512 == 0 && 2 <= blocks && blocks <= 9
 }
 
 // A number of two bytes.
@@ -29,7 +23,7 @@ fn word(s: &[u8], k: usize) -> u16
     requires { k + 1 < length s.now }
     ensures { result ≡ word_at s.now k }
 {
-    256 * (s[k] as u16) + (s[k + 1] as u16)
+    256 * u16::from(s[k]) + u16::from(s[k + 1])
 }
 
 // 2: the check of block k.
@@ -44,95 +38,68 @@ fn check_right(s: &[u8], k: usize) -> bool
 }
 
 // The first block whose check is wrong.
-fn checks(s: &[u8]) -> Verdict
+#[tactic(auto, using(base::proofs::Tests::in_order), unfolding(lane_file::specs::Read::checks))]
+fn checks(s: &[u8]) -> Result<(), usize>
     ensures { result ≡ checks s.now }
 {
     let blocks = s.len() / 512;
-    let mut k = 0;
-    while k < blocks {
+    for k in 0..blocks {
         if !check_right(s, k) {
-            return Verdict::Bad(k);
+            return Err(k);
         }
-        k += 1;
     }
-    Verdict::Good
+    Ok(())
+}
+
+// A test that has one place.
+fn need(right: bool, place: usize) -> Result<(), usize>
+    ensures { result ≡ need right place }
+{
+    if right { Ok(()) } else { Err(place) }
 }
 
 // 3: the first of the bytes 0 to 5 that is wrong.
-fn header(s: &[u8]) -> Verdict
+#[tactic(auto, unfolding(lane_file::specs::Read::header))]
+fn header(s: &[u8]) -> Result<(), usize>
     requires { 1024 ≤ length s.now }
     ensures { result ≡ header s.now }
 {
-    if s[0] != 0x4C {
-        return Verdict::Bad(0);
-    }
-    if s[1] != 0x4E {
-        return Verdict::Bad(1);
-    }
-    if s[2] != 1 {
-        return Verdict::Bad(2);
-    }
-    if s[3] < 1 {
-        return Verdict::Bad(3);
-    }
-    if 16 < s[3] {
-        return Verdict::Bad(3);
-    }
-    if s[4] < 1 {
-        return Verdict::Bad(4);
-    }
-    if 32 < s[4] {
-        return Verdict::Bad(4);
-    }
-    let k = s[5] as usize;
-    if k != s.len() / 512 - 1 {
-        return Verdict::Bad(5);
-    }
-    Verdict::Good
+    need(s[0] == 0x4C, 0)?;
+    need(s[1] == 0x4E, 1)?;
+    need(s[2] == 1, 2)?;
+    need(1 <= s[3] && s[3] <= 16, 3)?;
+    need(1 <= s[4] && s[4] <= 32, 4)?;
+    need(usize::from(s[5]) == s.len() / 512 - 1, 5)
 }
 
 // The tests 1 to 3, before a network is read.
-pub fn opened(s: &[u8]) -> Answer
+pub fn opened(s: &[u8]) -> Result<(), Refused>
     ensures { told result ≡ unless 1 (need (length_right (length s.now)) 0) (unless 2 (checks s.now) (unless 3 (header s.now) accepted)) }
 {
     if !length_right(s.len()) {
-        return Answer::Refused(Refusal::Length, 0);
+        return Err(Refused {
+            refusal: Refusal::Length,
+            place: 0,
+        });
     }
-    let blocks = checks(s);
-    if let Verdict::Bad(place) = blocks {
-        return Answer::Refused(Refusal::Check, place);
-    }
-    let bytes = header(s);
-    if let Verdict::Bad(place) = bytes {
-        return Answer::Refused(Refusal::Header, place);
-    }
-    Answer::Accepted
+    checks(s).map_err(|place| Refused {
+        refusal: Refusal::Check,
+        place,
+    })?;
+    header(s).map_err(|place| Refused {
+        refusal: Refusal::Header,
+        place,
+    })
 }
 
-// A word of each process slot, from a place on.
-fn slot_words(s: &[u8], at: usize) -> [u16; 16]
-    requires { at + 62 ≤ length s.now }
-    ensures { result ≡ table 16 (λ p. word_at s.now (at + 4 * p)) }
+// A word of each of so many slots or records, from a place on.
+fn words<const N: usize>(s: &[u8], at: usize) -> [u16; N]
+    requires { at + 4 * N ≤ length s.now + 2 }
+    ensures { result ≡ table N (λ k. word_at s.now (at + 4 * k)) }
 {
-    let mut a = [0u16; 16];
-    let mut p = 0;
-    while p < 16 {
-        a[p] = word(s, at + 4 * p);
-        p += 1;
-    }
-    a
-}
-
-// A word of each channel record, from a place on.
-fn record_words(s: &[u8], at: usize) -> [u16; 32]
-    requires { at + 126 ≤ length s.now }
-    ensures { result ≡ table 32 (λ c. word_at s.now (at + 4 * c)) }
-{
-    let mut a = [0u16; 32];
-    let mut c = 0;
-    while c < 32 {
-        a[c] = word(s, at + 4 * c);
-        c += 1;
+    let mut a = [0u16; N];
+    for k in 0..N {
+        a[k] = word(s, at + 4 * k);
     }
     a
 }
@@ -143,24 +110,10 @@ fn record_bytes(s: &[u8], at: usize) -> [u8; 32]
     ensures { result ≡ table 32 (λ c. get_or s.now (at + 4 * c) 0) }
 {
     let mut a = [0u8; 32];
-    let mut c = 0;
-    while c < 32 {
+    for c in 0..32 {
         a[c] = s[at + 4 * c];
-        c += 1;
     }
     a
-}
-
-// One slice into another of its length.
-fn copy(to: &mut [u8], from: &[u8])
-    requires { length to.old ≡ length from.now }
-    ensures { to.new ≡ from.now }
-{
-    let mut i = 0;
-    while i < to.len() {
-        to[i] = from[i];
-        i += 1;
-    }
 }
 
 // The code, 508 bytes of it from each code block.
@@ -170,12 +123,10 @@ fn code(s: &[u8]) -> [u8; 4064]
 {
     let blocks = s.len() / 512;
     let mut code = [0u8; 4064];
-    let mut k = 1;
-    while k < blocks {
+    for k in 1..blocks {
         let to = 508 * (k - 1);
         let from = 512 * k;
-        copy(&mut code[to..to + 508], &s[from..from + 508]);
-        k += 1;
+        code[to..to + 508].copy_from_slice(&s[from..from + 508]);
     }
     code
 }
@@ -186,13 +137,13 @@ pub fn network_of(s: &[u8]) -> Network
     ensures { result ≡ network_of s.now }
 {
     Network {
-        processes: s[3] as usize,
-        channels: s[4] as usize,
-        first: slot_words(s, 8),
-        count: slot_words(s, 10),
+        processes: usize::from(s[3]),
+        channels: usize::from(s[4]),
+        first: words(s, 8),
+        count: words(s, 10),
         sender: record_bytes(s, 72),
         receiver: record_bytes(s, 73),
-        capacity: record_words(s, 74),
+        capacity: words(s, 74),
         code: code(s),
     }
 }

@@ -17,21 +17,20 @@ fn read_on<F: Read>(file: &mut F, buffer: &mut [u8], at: usize) -> io::Result<us
     file.read(&mut buffer[at..])
 }
 
-// What is read until the buffer is full or the file ends; nothing where a read fails, whatever came before it. So it is a loop of its own.
-fn read_whole<F: Read>(file: &mut F, buffer: &mut [u8]) -> usize
-    ensures { IsPrefixLen result buffer.new }
+// How many bytes are read until the buffer is full or the file ends. A read that fails ends it, whatever came before it. So it is a loop of its
+// own, and it steps by what a read gave: no `for` does.
+fn read_whole<F: Read>(file: &mut F, buffer: &mut [u8]) -> io::Result<usize>
+    ensures { IfOk result (λ n. IsPrefixLen n buffer.new) }
 {
     let mut n: usize = 0;
     while n < buffer.len() {
-        let Ok(more) = read_on(file, buffer, n) else {
-            return 0;
-        };
+        let more = read_on(file, buffer, n)?;
         if more == 0 {
-            return n;
+            break;
         }
         n += more;
     }
-    n
+    Ok(n)
 }
 
 // Puts a file at the front of the buffer, and answers how many bytes it has; of one with more bytes than there is room for, the first ones. A file
@@ -45,5 +44,5 @@ pub fn load<R: Files>(rt: &R, name: &[u8], buffer: &mut [u8]) -> usize
     let Ok(mut file) = File::open(rt, path) else {
         return 0;
     };
-    read_whole(&mut file, buffer)
+    read_whole(&mut file, buffer).unwrap_or(0)
 }

@@ -12,9 +12,8 @@ use borrow.Author.Tests.{ne_eqb}
 use lib.Arith.{bin_ind}
 use lib.Bits.{bit_and, bit_or, and_step, or_step, and_shr, or_shr, and_le_r, or_add_and}
 use lib.Dec.{eqb}
-use Rattle.base.specs.declared.Verdict.{Verdict}
-use Rattle.base.specs.declared.Verdict.TheVariants.{Good, Bad}
-use Rattle.base.specs.Tests.{and_then, need, in_turn, first_bad, is_good}
+use Rattle.std.specs.declared.result.Result.TheVariants.{Ok, Err}
+use Rattle.base.specs.Tests.{Verdict, and_then, need, in_turn, first_bad, is_good}
 use Rattle.flags.specs.Clean.{clean}
 
 -- ---- `and` of an `or`, digit by digit
@@ -54,8 +53,8 @@ clean_or mask x y = ap (λ (n : ℕ). eqb n 0) (and_or mask x y) ∙ or_zero (bi
 
 -- ---- tests in turn, in two runs
 one_more : (v w x y : Verdict) → is_good w ≡ (is_good x && is_good y) → is_good (and_then v w) ≡ (is_good (and_then v x) && is_good y)
-one_more Good w x y e = e
-one_more (Bad k) w x y e = refl
+one_more (Ok u) w x y e = e
+one_more (Err k) w x y e = refl
 
 pub good_join : (test : ℕ → Bool) (i m n : ℕ) → is_good (first_bad test i (m + n)) ≡ (is_good (first_bad test i m) && is_good (first_bad test (i + m) n))
 unfolding in_turn
@@ -64,7 +63,7 @@ good_join test i (suc m) n =
     rw (suc-add) (one_more (need (test i) i) (first_bad test (suc i) (m + n)) (first_bad test (suc i) m) (first_bad test (i + suc m) n)
     (good_join test (suc i) m n ∙ ap (λ (k : ℕ). is_good (first_bad test (suc i) m) && is_good (first_bad test k n)) (omega arith)))
 
-need_good : (b : Bool) (k : ℕ) → is_good (and_then (need b k) Good) ≡ b
+need_good : (b : Bool) (k : ℕ) → is_good (and_then (need b k) (Ok tt)) ≡ b
 need_good true k = refl
 need_good false k = refl
 
@@ -86,6 +85,9 @@ no_tests test start n e = rw e
 pub unless_zero_lem : (right : Bool) → eqb (cond right 0 1) 0 ≡ right
 unless_zero_lem true = refl
 unless_zero_lem false = refl
+
+-- what a loop that makes tests in turn and lays what each leaves over the rest needs at each of its goals
+pub ruleset in_all = (one_on, no_tests, unless_zero_lem)
 
 -- x has the answer of the n tests from i on
 abbrev pub Tells : ℕ → (ℕ → Bool) → ℕ → ℕ → ℕ → Type 0

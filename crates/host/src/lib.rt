@@ -6,8 +6,6 @@ ghost use Rattle.block_check.specs.Crc.{crc};
 ghost use Rattle.bench.specs.Bench.{bench_of};
 ghost use Rattle.host.specs.Numbers.{number_told};
 
-use bench::BenchAnswer;
-
 // The block check of all bytes, of any length.
 #[unsafe(no_mangle)]
 pub extern "C" fn lane_block_check(bytes: &[u8]) -> u16
@@ -37,7 +35,7 @@ pub extern "C" fn lane_bench(file: &[u8], input: &[u8], picks: &[u8], listing: &
     ensures { (result ≡ number_told (bench_of file.now input.now picks.now listing.old).answer) × (listing.new ≡ (bench_of file.now input.now picks.now listing.old).listing) }
 {
     match bench::bench(file, input, picks, listing) {
-        BenchAnswer::Listed(length) => length_number(length),
-        BenchAnswer::Refused(refusal) => refusal_number(base::number(refusal)),
+        Ok(length) => length_number(length),
+        Err(refusal) => refusal_number(u8::from(refusal)),
     }
 }

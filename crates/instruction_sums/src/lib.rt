@@ -9,131 +9,107 @@ ghost use Rattle.network.specs.Code.{instruction_at};
 ghost use Rattle.flags.specs.Clean.{clean};
 ghost use Rattle.instruction_sums.specs.Sums.{weighed, sum_at, flags, clean_at, Small};
 
-// A byte as a number; that it is below 256 is not known of an element that is read through a reference.
-fn byte(x: u8) -> u64
-    ensures { (result ≡ x) × (result < 256) }
-{
-    x as u64
+// A code, and the two tables of words that are added to its instructions, by the opcode and by the field b. The words leave room for the sums.
+#[derive(Clone, Copy)]
+pub struct Sums<'a> {
+    pub code: &'a [u8; 4064],
+    pub opcodes: &'a [u64; 256],
+    pub channels: &'a [u64; 256],
+    ghost room_by_opcode: { Small opcodes.now },
+    ghost room_by_channel: { Small channels.now },
 }
 
-// Instruction i as one number.
-fn weigh(code: &[u8; 4064], i: usize) -> u64
-    requires { i < 1016 }
-    ensures { (result ≡ weighed (instruction_at code.now i)) × (result < 0x100000000) }
-{
-    let at = 4 * i;
-    let low = byte(code[at]) + 256 * byte(code[at + 1]);
-    low + 0x10000 * byte(code[at + 2]) + 0x1000000 * byte(code[at + 3])
-}
-
-// Instruction i with what the tables add. That its opcode and its field b are read before it is weighed spares two instructions each time, and that the
-// words are added to its weight, and not it to them, one (docs/PERFORMANCE.md).
-fn sum<'a>(code: &'a [u8; 4064], opcodes: &'a [u64; 256], channels: &'a [u64; 256], i: usize) -> u64
-    requires { (i < 1016) × Small opcodes.now × Small channels.now }
-    ensures { result ≡ sum_at code.now opcodes.now channels.now i }
-{
-    let at = 4 * i;
-    let op = byte(code[at]) as usize;
-    let b = byte(code[at + 2]) as usize;
-    weigh(code, i) + opcodes[op] + channels[b]
-}
-
-// The sums of two, of four, of eight instructions, laid over one another.
-fn two<'a>(code: &'a [u8; 4064], opcodes: &'a [u64; 256], channels: &'a [u64; 256], i: usize) -> u64
-    requires { (i + 2 ≤ 1016) × Small opcodes.now × Small channels.now }
-    ensures { clean flags result ≡ is_good (first_bad (clean_at code.now opcodes.now channels.now) i 2) }
-{
-    sum(code, opcodes, channels, i) | sum(code, opcodes, channels, i + 1)
-}
-
-fn four<'a>(
-    code: &'a [u8; 4064],
-    opcodes: &'a [u64; 256],
-    channels: &'a [u64; 256],
-    i: usize,
-) -> u64
-    requires { (i + 4 ≤ 1016) × Small opcodes.now × Small channels.now }
-    ensures { clean flags result ≡ is_good (first_bad (clean_at code.now opcodes.now channels.now) i 4) }
-{
-    two(code, opcodes, channels, i) | two(code, opcodes, channels, i + 2)
-}
-
-fn eight<'a>(
-    code: &'a [u8; 4064],
-    opcodes: &'a [u64; 256],
-    channels: &'a [u64; 256],
-    i: usize,
-) -> u64
-    requires { (i + 8 ≤ 1016) × Small opcodes.now × Small channels.now }
-    ensures { clean flags result ≡ is_good (first_bad (clean_at code.now opcodes.now channels.now) i 8) }
-{
-    four(code, opcodes, channels, i) | four(code, opcodes, channels, i + 4)
-}
-
-// Of n times sixteen instructions from a start on.
-fn sixteens<'a>(
-    code: &'a [u8; 4064],
-    opcodes: &'a [u64; 256],
-    channels: &'a [u64; 256],
-    start: usize,
-    n: usize,
-) -> u64
-    requires { (start + 16 * n ≤ 1016) × Small opcodes.now × Small channels.now }
-    ensures { clean flags result ≡ is_good (first_bad (clean_at code.now opcodes.now channels.now) start (16 * n)) }
-{
-    let end = start + 16 * n;
-    let mut all: u64 = 0;
-    let mut i = start;
-    while i < end {
-        all = all | eight(code, opcodes, channels, i) | eight(code, opcodes, channels, i + 8);
-        i += 16;
+impl<'a> Sums<'a> {
+    // Instruction i as one number.
+    fn weigh(self, i: usize) -> u64
+        requires { i < 1016 }
+        ensures { (result ≡ weighed (instruction_at self.entry.code.now i)) × (result < 0x100000000) }
+    {
+        let at = 4 * i;
+        let low = u64::from(self.code[at]) + 256 * u64::from(self.code[at + 1]);
+        low + 0x10000 * u64::from(self.code[at + 2]) + 0x1000000 * u64::from(self.code[at + 3])
     }
-    all
-}
 
-// Of fewer than sixteen.
-fn few<'a>(
-    code: &'a [u8; 4064],
-    opcodes: &'a [u64; 256],
-    channels: &'a [u64; 256],
-    start: usize,
-    n: usize,
-) -> u64
-    requires { (n < 16) × (start + n ≤ 1016) × Small opcodes.now × Small channels.now }
-    ensures { clean flags result ≡ is_good (first_bad (clean_at code.now opcodes.now channels.now) start n) }
-{
-    let mut all: u64 = 0;
-    let mut i = start;
-    if 8 <= n {
-        all = eight(code, opcodes, channels, i);
-        i += 8;
+    // Instruction i with what the tables add. That its opcode and its field b are read before it is weighed spares two instructions each time, and that the
+    // words are added to its weight, and not it to them, one (docs/PERFORMANCE.md).
+    fn sum(self, i: usize) -> u64
+        requires { i < 1016 }
+        ensures { result ≡ sum_at self.entry.code.now self.entry.opcodes.now self.entry.channels.now i }
+    {
+        let at = 4 * i;
+        let op = usize::from(self.code[at]);
+        let b = usize::from(self.code[at + 2]);
+        self.weigh(i) + self.opcodes[op] + self.channels[b]
     }
-    if 4 <= n % 8 {
-        all = all | four(code, opcodes, channels, i);
-        i += 4;
-    }
-    if 2 <= n % 4 {
-        all = all | two(code, opcodes, channels, i);
-        i += 2;
-    }
-    if n % 2 == 1 {
-        all = all | sum(code, opcodes, channels, i);
-    }
-    all
-}
 
-// Of any number. Public for the test of a code.
-pub fn run<'a>(
-    code: &'a [u8; 4064],
-    opcodes: &'a [u64; 256],
-    channels: &'a [u64; 256],
-    start: usize,
-    n: usize,
-) -> u64
-    requires { (start + n ≤ 1016) × Small opcodes.now × Small channels.now }
-    ensures { clean flags result ≡ is_good (first_bad (clean_at code.now opcodes.now channels.now) start n) }
-{
-    let times = n / 16;
-    let most = start + 16 * times;
-    sixteens(code, opcodes, channels, start, times) | few(code, opcodes, channels, most, n % 16)
+    // The sums of two, of four, of eight instructions, laid over one another. Written out and no loop, for speed: sixteen instructions are one lap
+    // (docs/PERFORMANCE.md).
+    fn two(self, i: usize) -> u64
+        requires { i + 2 ≤ 1016 }
+        ensures { clean flags result ≡ is_good (first_bad (clean_at self.entry.code.now self.entry.opcodes.now self.entry.channels.now) i 2) }
+    {
+        self.sum(i) | self.sum(i + 1)
+    }
+
+    fn four(self, i: usize) -> u64
+        requires { i + 4 ≤ 1016 }
+        ensures { clean flags result ≡ is_good (first_bad (clean_at self.entry.code.now self.entry.opcodes.now self.entry.channels.now) i 4) }
+    {
+        self.two(i) | self.two(i + 2)
+    }
+
+    fn eight(self, i: usize) -> u64
+        requires { i + 8 ≤ 1016 }
+        ensures { clean flags result ≡ is_good (first_bad (clean_at self.entry.code.now self.entry.opcodes.now self.entry.channels.now) i 8) }
+    {
+        self.four(i) | self.four(i + 4)
+    }
+
+    // Of n times sixteen instructions from a start on.
+    fn sixteens(self, start: usize, n: usize) -> u64
+        requires { start + 16 * n ≤ 1016 }
+        ensures { clean flags result ≡ is_good (first_bad (clean_at self.entry.code.now self.entry.opcodes.now self.entry.channels.now) start (16 * n)) }
+    {
+        let mut all: u64 = 0;
+        for k in 0..n {
+            let i = start + 16 * k;
+            all = all | self.eight(i) | self.eight(i + 8);
+        }
+        all
+    }
+
+    // Of fewer than sixteen.
+    fn few(self, start: usize, n: usize) -> u64
+        requires { (n < 16) × (start + n ≤ 1016) }
+        ensures { clean flags result ≡ is_good (first_bad (clean_at self.entry.code.now self.entry.opcodes.now self.entry.channels.now) start n) }
+    {
+        let mut all: u64 = 0;
+        let mut i = start;
+        if 8 <= n {
+            all = self.eight(i);
+            i += 8;
+        }
+        if 4 <= n % 8 {
+            all = all | self.four(i);
+            i += 4;
+        }
+        if 2 <= n % 4 {
+            all = all | self.two(i);
+            i += 2;
+        }
+        if n % 2 == 1 {
+            all = all | self.sum(i);
+        }
+        all
+    }
+
+    // Of any number. Public for the test of a code.
+    pub fn run(self, start: usize, n: usize) -> u64
+        requires { start + n ≤ 1016 }
+        ensures { clean flags result ≡ is_good (first_bad (clean_at self.entry.code.now self.entry.opcodes.now self.entry.channels.now) start n) }
+    {
+        let times = n / 16;
+        let most = start + 16 * times;
+        self.sixteens(start, times) | self.few(most, n % 16)
+    }
 }

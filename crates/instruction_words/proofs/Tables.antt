@@ -138,13 +138,6 @@ module _ (count p : ℕ) (hp : p < 16) where
   close_next = renumber (asked + room no_field 0 255) _ _ 0x3FFFFE00000000 13 (omega arith) (sending_next p hp)
 
 -- ---- by the field b
--- of a table of zeros the entries below 128 are long words already
-pub long_front : (old : List ℕ) → old ≡ replicate 256 0 → Filled long_word 0 old 128 old
-long_front old e = front long_word old 128 (λ k h. rw (e, lt-ltb k 128 h) (get_or-replicate 256 k 0 0 (omega arith)))
-
-pub long_entry : (b : ℕ) → 128 ≤ b → 0x1FF800000 ≡ long_word b
-long_entry b h = sym (rw (le-ltb b 128 h))
-
 pub short_plain : (b : ℕ) → b < 32 → 0x2041003C0000001E + 0xFFFFFF0000 * b ≡ plain_word b
 short_plain b h = rw (lt-ltb b 32 h) (omega arith)
 

@@ -10,10 +10,7 @@ ghost use Rattle.instruction_words.specs.Words.{room, no_opcode, opcode_word, lo
 fn below(e: u8) -> u64
     ensures { result ≡ 30 - e }
 {
-    if e < 30 {
-        return 30 - (e as u64);
-    }
-    0
+    u64::from(30u8.saturating_sub(e))
 }
 
 // What is added where b is not short, in a table of zeros.
@@ -21,11 +18,7 @@ pub fn long_words(words: &mut [u64; 256])
     requires { words.old ≡ replicate 256 0 }
     ensures { words.new ≡ table 256 long_word }
 {
-    let mut b: usize = 128;
-    while b < 256 {
-        words[b] = 0x1FF800000;
-        b += 1;
-    }
+    words[128..].fill(0x1FF800000);
 }
 
 // What is added for each value of b where there are no channels; those that are not short come before.
@@ -34,15 +27,14 @@ pub fn plain_words(words: &mut [u64; 256])
     ensures { words.new ≡ table 256 plain_word }
 {
     let mut word: u64 = 0x2041003C0000001E;
-    let mut b: usize = 0;
-    while b < 32 {
+    for b in 0..32 {
         words[b] = word;
         word += 0xFFFFFF0000;
-        b += 1;
     }
 }
 
-// What is added for each value of b; the channels come after the rest.
+// What is added for each value of b; the channels come after the rest. The ends are lent as arrays and no network is: this crate stands on `base` alone, and
+// its tables know no network.
 pub fn channel_words<'a>(
     words: &mut [u64; 256],
     receiver: &'a [u8; 32],
@@ -52,12 +44,10 @@ pub fn channel_words<'a>(
     requires { (channels ≤ 32) × (words.old ≡ table 256 plain_word) }
     ensures { words.new ≡ table 256 (channel_word receiver.now sender.now channels) }
 {
-    let mut b: usize = 0;
-    while b < channels {
+    for b in 0..channels {
         let into = 0xFFFFFFFFFFFF * below(receiver[b]);
         let out = 0x3FFFFE00000000 * below(sender[b]);
         words[b] = words[b] + into + out;
-        b += 1;
     }
 }
 

@@ -13,7 +13,7 @@ use lib.Dec.{eqb, ltb}
 use lib.IntN.{ℤ, pos}
 use lib.ListN.{length, get_or, set, length-set}
 use lib.Seq.{set-get_or, get_or-set_same, get_or-set_other}
-use Rattle.base.specs.declared.Verdict.TheVariants.{Good}
+use Rattle.std.specs.declared.result.Result.TheVariants.{Ok}
 use Rattle.network.specs.declared.Network.{Network}
 use Rattle.network.specs.Code.{fields_right, stands_right, may_be_last}
 use Rattle.network.specs.Rules.{start_of, count_of, end_of, receives, sends, instruction_of, instruction_right, instructions, passes}
@@ -51,7 +51,7 @@ module _ (n : Network) where
   unfolding fields_right
   stop_right p = refl
 
-  stands_owns : instructions n ≡ Good → (p : ℕ) → p < n.processes → (q : Process) → OwnsIn p (intent_of n p q)
+  stands_owns : instructions n ≡ Ok tt → (p : ℕ) → p < n.processes → (q : Process) → OwnsIn p (intent_of n p q)
   unfolding stands_at
   stands_owns g p h q = at (ltb q.position (count_of n p)) refl
     where
@@ -61,7 +61,7 @@ module _ (n : Network) where
           (fields_right_lem n p (start_of n p + q.position) (right_at n g p h q.position (ltb-true _ _ e)))
       at false e = want_owns n p 0 q no_instruction (stop_right p)
 
-  pub wants_owns : instructions n ≡ Good → (p : ℕ) (q : Process) → OwnsIn p (wants_in p q)
+  pub wants_owns : instructions n ≡ Ok tt → (p : ℕ) (q : Process) → OwnsIn p (wants_in p q)
   wants_owns g p q = at (ltb p n.processes) refl
     where
       at : (t : Bool) → ltb p n.processes ≡ t → OwnsIn p (cond t (intent_of n p q) idle)

@@ -6,7 +6,7 @@ use Prim.Native.Nat.{ℕ, ◌+◌, ◌<◌}
 use native.Mathlib.Omega.{arith}
 use borrow.Author.Tests.{lt-ltb, eq-eqb, eqb-true}
 use lib.Dec.{eqb}
-use Rattle.base.specs.declared.Verdict.TheVariants.{Good}
+use Rattle.std.specs.declared.result.Result.TheVariants.{Ok}
 use Rattle.base.specs.Tests.{need}
 use Rattle.base.proofs.Tests.{each, need_true}
 use Rattle.network.specs.declared.Network.{Network}
@@ -21,7 +21,7 @@ use Rattle.lane.specs.Pick.{instruction_for}
 use Rattle.lane.proofs.SoundLaws.{Sound, implied, implies}
 
 -- where all instructions are right, each is
-pub right_at : (n : Network) → instructions n ≡ Good → (p : ℕ) → p < n.processes → (k : ℕ) → k < count_of n p → instruction_right n p (start_of n p + k) ≡ true
+pub right_at : (n : Network) → instructions n ≡ Ok tt → (p : ℕ) → p < n.processes → (k : ℕ) → k < count_of n p → instruction_right n p (start_of n p + k) ≡ true
 unfolding instructions code_of
 right_at n g p b k m =
     need_true _ (start_of n p + k)

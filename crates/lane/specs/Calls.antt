@@ -7,12 +7,13 @@ use Rattle.process.specs.declared.Outcome.{Outcome}
 use Rattle.process.specs.declared.Outcome.TheVariants.{Moved, Sent, Halted, WaitEmpty, WaitFull, Ended}
 use Rattle.process.specs.Channels.{put_one, get_one, close_one, slot}
 use Rattle.process.specs.Execute.{full}
+use Rattle.std.specs.declared.option.Option.{Option}
+use Rattle.std.specs.declared.option.Option.TheVariants.{None, Some}
+use Rattle.std.specs.declared.result.Result.{Result}
+use Rattle.std.specs.declared.result.Result.TheVariants.{Ok, Err}
+use Rattle.base.specs.declared.Refusal.{Refusal}
 use Rattle.lane.specs.declared.PickAnswer.{PickAnswer}
 use Rattle.lane.specs.declared.PickAnswer.TheVariants as pick-answer
-use Rattle.lane.specs.declared.FeedAnswer.{FeedAnswer}
-use Rattle.lane.specs.declared.FeedAnswer.TheVariants as feed-answer
-use Rattle.lane.specs.declared.TakeAnswer.{TakeAnswer}
-use Rattle.lane.specs.declared.TakeAnswer.TheVariants as take-answer
 use Rattle.lane.specs.State.{World, world, cell_at, ended_at, channel_of, put_channel, count}
 use Rattle.lane.specs.Sound.{sound_of}
 use Rattle.lane.specs.Pick.{channel_in, instruction_for, step_for, pick_in}
@@ -37,21 +38,25 @@ abbrev pub called : Told → World → Called
 called a w = record { answer = a; world = w }
 
 -- the answers of the code, in these terms
-abbrev pub pick_told : PickAnswer → Told
-pick_told pick-answer.Moved = moved
-pick_told (pick-answer.WaitingEmpty c) = waiting_empty c
-pick_told (pick-answer.WaitingFull c) = waiting_full c
-pick_told pick-answer.Ended = ended
-pick_told (pick-answer.Refused r) = refused (number_of r)
+abbrev pub pick_says : PickAnswer → Told
+pick_says pick-answer.Moved = moved
+pick_says (pick-answer.WaitingEmpty c) = waiting_empty c
+pick_says (pick-answer.WaitingFull c) = waiting_full c
+pick_says pick-answer.Ended = ended
 
-abbrev pub feed_told : FeedAnswer → Told
-feed_told feed-answer.Accepted = accepted
-feed_told (feed-answer.Refused r) = refused (number_of r)
+abbrev pub pick_told : Result PickAnswer Refusal → Told
+pick_told (Ok a) = pick_says a
+pick_told (Err r) = refused (number_of r)
 
-abbrev pub take_told : TakeAnswer → Told
-take_told (take-answer.Value v) = value v
-take_told take-answer.End = the_end
-take_told (take-answer.Refused r) = refused (number_of r)
+abbrev pub feed_told : Result Unit Refusal → Told
+feed_told (Ok u) = accepted
+feed_told (Err r) = refused (number_of r)
+
+-- a message, or none: the end
+abbrev pub take_told : Result (Option ℤ) Refusal → Told
+take_told (Ok (Some v)) = value v
+take_told (Ok None) = the_end
+take_told (Err r) = refused (number_of r)
 
 -- a refusal with its number where the test says so, and then "lane, cells and buffers are unchanged"; else what follows
 abbrev pub refuse : Bool → ℕ → World → Called → Called

@@ -1,12 +1,15 @@
 // A lane: a network with its state, and what the calls on it answer. The calls themselves stand in the crates above.
 #![tactic(auto)]
 
+ghost use Rattle.std.specs.Prelude.{◌≡◌, ◌≤◌, true};
+ghost use Rattle.lane.specs.Sound.{sound_of};
+
 use base::Refusal;
 use network::Network;
 use process::{Channel, Condition};
 
 // A process without its registers, which lie in the lane's register file.
-#[derive(Clone, Copy)]
+#[derive(Clone, Copy, PartialEq, Eq)]
 pub struct Standing {
     pub position: u16,
     pub condition: Condition,
@@ -23,43 +26,28 @@ pub struct Lane {
     pub accepted: u64,
 }
 
-#[derive(Drop)]
+// A lane that is sound, which is tested once a call: picks, reliefs and what is made of them take no other.
+#[derive(Clone, Copy)]
+pub struct SoundLane {
+    pub lane: Lane,
+    ghost sound: { sound_of lane ≡ true },
+    // Both follow from it; they stand here for the bounds of indices.
+    ghost few_processes: { lane.network.processes ≤ 16 },
+    ghost few_channels: { lane.network.channels ≤ 32 },
+}
+
+// What an accepted pick answers: the process moved; it waits at its channel, which is empty or full; it had ended before.
+#[derive(Clone, Copy, PartialEq, Eq)]
 pub enum PickAnswer {
     Moved,
     WaitingEmpty(usize),
     WaitingFull(usize),
     Ended,
-    Refused(Refusal),
 }
 
+// What a call on a lane by value hands back: the lane, and its answer or the refusal.
 #[derive(Drop)]
-pub struct Picked {
+pub struct Answered<A> {
     pub lane: Lane,
-    pub answer: PickAnswer,
-}
-
-// The answer to a feed and to a close.
-#[derive(Drop)]
-pub enum FeedAnswer {
-    Accepted,
-    Refused(Refusal),
-}
-
-#[derive(Drop)]
-pub struct Fed {
-    pub lane: Lane,
-    pub answer: FeedAnswer,
-}
-
-#[derive(Clone, Copy)]
-pub enum TakeAnswer {
-    Value(i32),
-    End,
-    Refused(Refusal),
-}
-
-#[derive(Drop)]
-pub struct Taken {
-    pub lane: Lane,
-    pub answer: TakeAnswer,
+    pub answer: Result<A, Refusal>,
 }

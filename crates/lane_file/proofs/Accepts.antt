@@ -9,7 +9,7 @@ use native.Mathlib.Omega.{arith}
 use borrow.Author.Tests.{eqb-true, eq-eqb}
 use lib.Dec.{eqb}
 use lib.ListN.{length, get_or, take, drop}
-use Rattle.base.specs.declared.Verdict.TheVariants.{Good}
+use Rattle.std.specs.declared.result.Result.TheVariants.{Ok}
 use Rattle.base.specs.Lists.{word_at, two_bytes}
 use Rattle.base.proofs.Tests.{both_good, true_need, all, each_true, all_true}
 use Rattle.block_check.specs.Crc.{crc}
@@ -32,14 +32,14 @@ four_zeros (suc (suc zero)) = refl
 four_zeros (suc (suc (suc zero))) = refl
 four_zeros (suc (suc (suc (suc q)))) = refl
 
-pub slot_zero_lem : (n : Network) → unused_slots n ≡ Good → (p q : ℕ) → n.processes ≤ p → p < 16 → get_or (slot_of n p) q 0 ≡ 0
+pub slot_zero_lem : (n : Network) → unused_slots n ≡ Ok tt → (p q : ℕ) → n.processes ≤ p → p < 16 → get_or (slot_of n p) q 0 ≡ 0
 unfolding unused_slots
 slot_zero_lem n g p q a b =
     let z = both_true (eqb (start_of n p) 0) (eqb (count_of n p) 0)
     (each_true (slot_zero n) n.processes (16 - n.processes) g p a (omega arith)) in
     ap₂ (λ (a b : ℕ). get_or (two_bytes a ++ two_bytes b) q 0) (eqb-true (start_of n p) 0 z.0) (eqb-true (count_of n p) 0 z.1) ∙ four_zeros q
 
-pub record_zero_lem : (n : Network) → unused_records n ≡ Good → (c q : ℕ) → n.channels ≤ c → c < 32 → get_or (record_of n c) q 0 ≡ 0
+pub record_zero_lem : (n : Network) → unused_records n ≡ Ok tt → (c q : ℕ) → n.channels ≤ c → c < 32 → get_or (record_of n c) q 0 ≡ 0
 unfolding unused_records
 record_zero_lem n g c q a b =
     let z = both_true (eqb (sender_of n c) 0 && eqb (receiver_of n c) 0) (eqb (capacity_of n c) 0)
@@ -62,14 +62,14 @@ module _ (n : Network) (s : List ℕ) (h : Holds n s) (passed : Passed n) where
       (same_place s (512 * k + 510) (512 * k + (510 + 0)) (omega arith) ∙ h.check k 0 l (omega arith))
       (same_place s (512 * k + 510 + 1) (512 * k + (510 + 1)) (omega arith) ∙ h.check k 1 l (omega arith)))
 
-  checks_good : checks s ≡ Good
+  checks_good : checks s ≡ Ok tt
   unfolding checks
   checks_good = all_true (check_right s) 0 (blocks s) (λ k a b. check_good k (omega (arith, h.long)))
 
   blocks_are : get_or s 5 0 ≡ blocks_of n
   blocks_are = h.header 5 (omega arith)
 
-  header_good : header s ≡ Good
+  header_good : header s ≡ Ok tt
   unfolding header
   header_good =
       both_good _ _ (true_need _ 0 (eq-eqb (get_or s 0 0) 0x4C (h.header 0 (omega arith))))
@@ -79,7 +79,7 @@ module _ (n : Network) (s : List ℕ) (h : Holds n s) (passed : Passed n) where
       (both_good _ _ (true_need _ 4 (ap channels_right (h.header 4 (omega arith)) ∙ true_between 1 n.channels 32 passed.channels_low passed.channels_high))
       (true_need _ 5 (eq-eqb (get_or s 5 0) (blocks s - 1) (omega (arith, blocks_are, h.long))))))))
 
-  slots_good : slots_in s n ≡ Good
+  slots_good : slots_in s n ≡ Ok tt
   slots_good = both_good (slots n) _ passed.slots_good (true_need _ 16 (eq-eqb (get_or s 5 0) (blocks_of n) blocks_are))
 
   -- ---- 6: what must be zero
@@ -111,21 +111,21 @@ module _ (n : Network) (s : List ℕ) (h : Holds n s) (passed : Passed n) where
       ∙ h.code k r l (omega arith)
       ∙ code_zero n passed.unused_code_good (508 * k + r) (omega arith) (omega (arith, passed.total_high))
 
-  code_rest_lem : (k : ℕ) → k < blocks_of n → code_rest s (total n) (k + 1) ≡ Good
+  code_rest_lem : (k : ℕ) → k < blocks_of n → code_rest s (total n) (k + 1) ≡ Ok tt
   unfolding code_rest
   code_rest_lem k l =
       both_good _ _ (all_zero s (unused_from (total n) (k + 1)) (512 * (k + 1) + 508) (code_zeros k l))
       (both_good _ _ (true_need _ _ (eq-eqb (get_or s (512 * (k + 1) + 508) 0) ((k + 1) / 256) (h.number k 0 l (omega arith))))
       (true_need _ _ (eq-eqb (get_or s (512 * (k + 1) + 509) 0) ((k + 1) % 256) (h.number k 1 l (omega arith)))))
 
-  rest_good : rest_in s n ≡ Good
+  rest_good : rest_in s n ≡ Ok tt
   unfolding rest_in
   rest_good =
       both_good _ _ (all_zero s 6 8 header_zeros)
       (both_good _ _ (all_zero s (8 + 4 * n.processes) 72 slot_zeros)
       (both_good _ _ (all_zero s (72 + 4 * n.channels) 510 (λ j a b. record_zeros j b a))
       (all (code_rest s (total n)) (blocks s - 1) 1
-      (λ k a b. subst (λ (i : ℕ). code_rest s (total n) i ≡ Good) (omega arith) (code_rest_lem (k - 1) (omega (arith, h.long)))))))
+      (λ k a b. subst (λ (i : ℕ). code_rest s (total n) i ≡ Ok tt) (omega arith) (code_rest_lem (k - 1) (omega (arith, h.long)))))))
 
   pub passes_seven : Seven s n
   passes_seven =

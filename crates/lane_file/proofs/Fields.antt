@@ -8,7 +8,7 @@ use native.Mathlib.Omega.{arith}
 use borrow.Author.Tests.{eqb-true}
 use lib.ListN.{get_or, get_or-eq_default}
 use Rattle.base.proofs.Tests.{each_true}
-use Rattle.base.specs.declared.Verdict.TheVariants.{Good}
+use Rattle.std.specs.declared.result.Result.TheVariants.{Ok}
 use Rattle.base.specs.Lists.{word_at}
 use Rattle.base.specs.Tests.{is_zero}
 use Rattle.base.proofs.Lists.{length_values, table_at, table_is}
@@ -74,7 +74,7 @@ same_network m n p c f k s r a d =
     λ i. record { processes = p i; channels = c i; first = f i; count = k i; sender = s i; receiver = r i; capacity = a i; code = d i }
 
 -- unused code is zero
-pub code_zero : (n : Network) → unused_code n ≡ Good → (j : ℕ) → 4 * total n ≤ j → j < 4064 → get_or n.code j 0 ≡ 0
+pub code_zero : (n : Network) → unused_code n ≡ Ok tt → (j : ℕ) → 4 * total n ≤ j → j < 4064 → get_or n.code j 0 ≡ 0
 unfolding unused_code
 code_zero n g j a b = eqb-true (get_or n.code j 0) 0 (each_true (is_zero n.code) (4 * total n) (4064 - 4 * total n) g j a (omega arith))
 

@@ -9,7 +9,7 @@ use native.Mathlib.Omega.{arith}
 use borrow.Author.Tests.{eqb-true, eq-eqb}
 use lib.Dec.{eqb}
 use lib.ListN.{length, get_or, take, drop, get_or-eq_default}
-use Rattle.base.specs.declared.Verdict.TheVariants.{Good}
+use Rattle.std.specs.declared.result.Result.TheVariants.{Ok}
 use Rattle.base.specs.Lists.{word_at, two_bytes}
 use Rattle.base.specs.Tests.{need, is_zero}
 use Rattle.base.proofs.Tests.{both, need_true, each_true, all_true}
@@ -38,7 +38,7 @@ module _ (s : List ℕ) (bytes : Bytes s) (v : Seven s (network_of s)) where
   rest_facts : Rested s (network_of s)
   rest_facts = rested s (network_of s) v.rest_good
 
-  slots_facts : (slots (network_of s) ≡ Good) × (need (eqb (get_or s 5 0) (blocks_of (network_of s))) 16 ≡ Good)
+  slots_facts : (slots (network_of s) ≡ Ok tt) × (need (eqb (get_or s 5 0) (blocks_of (network_of s))) 16 ≡ Ok tt)
   slots_facts = both (slots (network_of s)) _ v.slots_good
 
   -- 2 to 9 blocks
@@ -129,7 +129,7 @@ module _ (s : List ℕ) (bytes : Bytes s) (v : Seven s (network_of s)) where
       }
 
   -- ---- and that network passes
-  unused_slots_lem : unused_slots (network_of s) ≡ Good
+  unused_slots_lem : unused_slots (network_of s) ≡ Ok tt
   unfolding unused_slots
   unused_slots_lem =
       all_true (slot_zero (network_of s)) (network_of s).processes (16 - (network_of s).processes)
@@ -140,7 +140,7 @@ module _ (s : List ℕ) (bytes : Bytes s) (v : Seven s (network_of s)) where
       (eq-eqb (count_of (network_of s) p) 0
       (omega (arith, count_of_lem s p l, rest_facts.slot_zeros (10 + 4 * p) (omega arith) (omega arith), rest_facts.slot_zeros (10 + 4 * p + 1) (omega arith) (omega arith)))))
 
-  unused_records_lem : unused_records (network_of s) ≡ Good
+  unused_records_lem : unused_records (network_of s) ≡ Ok tt
   unfolding unused_records
   unused_records_lem =
       all_true (record_zero (network_of s)) (network_of s).channels (32 - (network_of s).channels)
@@ -160,7 +160,7 @@ module _ (s : List ℕ) (bytes : Bytes s) (v : Seven s (network_of s)) where
       go (yes l) = (rest_facts.code (1 + j / 508) (omega arith) l).zeros (code_place j) (omega arith) (omega arith)
       go (no l) = get_or-eq_default s 0 (omega (arith, whole))
 
-  unused_code_lem : unused_code (network_of s) ≡ Good
+  unused_code_lem : unused_code (network_of s) ≡ Ok tt
   unfolding unused_code
   unused_code_lem =
       all_true (is_zero (network_of s).code) (4 * total (network_of s)) (4064 - 4 * total (network_of s))

@@ -8,9 +8,8 @@ use native.Mathlib.Omega.{arith}
 use borrow.Author.Tests.{eqb-true, eq-eqb}
 use lib.Dec.{T, eqb}
 use lib.ListN.{length, get_or}
-use Rattle.base.specs.declared.Verdict.{Verdict}
-use Rattle.base.specs.declared.Verdict.TheVariants.{Good, Bad}
-use Rattle.base.specs.Tests.{need, in_turn, is_zero}
+use Rattle.std.specs.declared.result.Result.TheVariants.{Ok, Err}
+use Rattle.base.specs.Tests.{Verdict, need, in_turn, is_zero}
 use Rattle.base.proofs.Tests.{both, each, need_true, each_true, all_true}
 use Rattle.network.specs.declared.Network.{Network}
 use Rattle.network.specs.Rules.{processes_right, channels_right, records, total, instructions}
@@ -18,30 +17,30 @@ use Rattle.base.proofs.Conjunction.{between_true}
 use Rattle.lane_file.specs.Read.{Told, accepted, refused, blocks, length_right, checks, header, slots_in, unused_from, code_rest, rest_in, zeros_in, unless, answer_in}
 
 -- ---- tests place by place
-pub each_zero : (s : List ℕ) (a e : ℕ) → zeros_in s a e ≡ Good → (j : ℕ) → a ≤ j → j < e → get_or s j 0 ≡ 0
+pub each_zero : (s : List ℕ) (a e : ℕ) → zeros_in s a e ≡ Ok tt → (j : ℕ) → a ≤ j → j < e → get_or s j 0 ≡ 0
 each_zero s a e g j h l = eqb-true (get_or s j 0) 0 (each_true (is_zero s) a (e - a) g j h (omega arith))
 
-pub all_zero : (s : List ℕ) (a e : ℕ) → ((j : ℕ) → a ≤ j → j < e → get_or s j 0 ≡ 0) → zeros_in s a e ≡ Good
+pub all_zero : (s : List ℕ) (a e : ℕ) → ((j : ℕ) → a ≤ j → j < e → get_or s j 0 ≡ 0) → zeros_in s a e ≡ Ok tt
 all_zero s a e g = all_true (is_zero s) a (e - a) (λ j h l. eq-eqb (get_or s j 0) 0 (g j h (omega arith)))
 
 -- ---- the seven tests
 pub record Seven (s : List ℕ) (n : Network) : Type 0 where
   pub length_right_lem : length_right (length s) ≡ true
-  pub checks_good : checks s ≡ Good
-  pub header_good : header s ≡ Good
-  pub slots_good : slots_in s n ≡ Good
-  pub records_good : records n ≡ Good
-  pub rest_good : rest_in s n ≡ Good
-  pub instructions_good : instructions n ≡ Good
+  pub checks_good : checks s ≡ Ok tt
+  pub header_good : header s ≡ Ok tt
+  pub slots_good : slots_in s n ≡ Ok tt
+  pub records_good : records n ≡ Ok tt
+  pub rest_good : rest_in s n ≡ Ok tt
+  pub instructions_good : instructions n ≡ Ok tt
 
 abbrev is_accepted : Told → Bool
 is_accepted accepted = true
 is_accepted (refused number place) = false
 
 -- a test that was passed over, and what followed
-pub passing : (number : ℕ) (v : Verdict) (next : Told) → unless number v next ≡ accepted → (v ≡ Good) × (next ≡ accepted)
-passing number Good next e = (refl, e)
-passing number (Bad place) next e = absurd (subst (λ (t : Told). T (is_accepted t)) (sym e) tt)
+pub passing : (number : ℕ) (v : Verdict) (next : Told) → unless number v next ≡ accepted → (v ≡ Ok tt) × (next ≡ accepted)
+passing number (Ok u) next e = (refl, e)
+passing number (Err place) next e = absurd (subst (λ (t : Told). T (is_accepted t)) (sym e) tt)
 
 pub seven : (s : List ℕ) (n : Network) → answer_in s n ≡ accepted → Seven s n
 unfolding answer_in
@@ -77,7 +76,7 @@ pub record Headed (s : List ℕ) : Type 0 where
   pub channels : (1 ≤ get_or s 4 0) × (get_or s 4 0 ≤ 32)
   pub at_5 : get_or s 5 0 ≡ blocks s - 1
 
-pub headed : (s : List ℕ) → header s ≡ Good → Headed s
+pub headed : (s : List ℕ) → header s ≡ Ok tt → Headed s
 unfolding header
 headed s e =
     let a = both (need (eqb (get_or s 0 0) 0x4C) 0) _ e in
@@ -100,7 +99,7 @@ pub record Numbered (s : List ℕ) (instructions k : ℕ) : Type 0 where
   pub high : get_or s (512 * k + 508) 0 ≡ k / 256
   pub low : get_or s (512 * k + 509) 0 ≡ k % 256
 
-pub numbered : (s : List ℕ) (instructions k : ℕ) → code_rest s instructions k ≡ Good → Numbered s instructions k
+pub numbered : (s : List ℕ) (instructions k : ℕ) → code_rest s instructions k ≡ Ok tt → Numbered s instructions k
 unfolding code_rest
 numbered s instructions k e =
     let a = both (zeros_in s (unused_from instructions k) (512 * k + 508)) _ e in
@@ -117,7 +116,7 @@ pub record Rested (s : List ℕ) (n : Network) : Type 0 where
   pub record_zeros : (j : ℕ) → 72 + 4 * n.channels ≤ j → j < 510 → get_or s j 0 ≡ 0
   pub code : (k : ℕ) → 1 ≤ k → k < blocks s → Numbered s (total n) k
 
-pub rested : (s : List ℕ) (n : Network) → rest_in s n ≡ Good → Rested s n
+pub rested : (s : List ℕ) (n : Network) → rest_in s n ≡ Ok tt → Rested s n
 unfolding rest_in
 rested s n e =
     let a = both (zeros_in s 6 8) _ e in

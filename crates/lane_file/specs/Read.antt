@@ -1,17 +1,15 @@
 -- Document 01, "The lane file" and "Refusal table", 1 to 7: what reading a list of bytes answers.
 -- Assumes nothing.
 use Rattle.std.specs.Prelude.{Bool, ◌&&◌, List, ℕ, ◌+◌, ◌-◌, ◌*◌, ◌/◌, ◌%◌, ◌<◌, min, eqb, length, get_or, take, drop, replicate}
-use Rattle.base.specs.declared.Verdict.{Verdict}
-use Rattle.base.specs.declared.Verdict.TheVariants.{Good, Bad}
+use Rattle.std.specs.declared.result.Result.{Result as Either}
+use Rattle.std.specs.declared.result.Result.TheVariants.{Ok, Err}
 use Rattle.base.specs.Refusals.{number_of}
-use Rattle.base.specs.Tests.{and_then, need, in_turn, first_bad, between, is_zero}
+use Rattle.base.specs.Tests.{Verdict, and_then, need, in_turn, first_bad, between, is_zero}
 use Rattle.base.specs.Lists.{table, word_at}
 use Rattle.block_check.specs.Crc.{crc}
 use Rattle.network.specs.declared.Network.{Network}
 use Rattle.network.specs.Rules.{processes_right, channels_right, slots, total, blocks_for, records, instructions}
-use Rattle.lane_file.specs.declared.Answer.{Answer}
-use Rattle.lane_file.specs.declared.Answer.TheVariants.{Accepted, Refused}
-use Rattle.lane_file.specs.declared.Reading.{Reading}
+use Rattle.lane_file.specs.declared.Refused.{Refused}
 
 -- a list of bytes
 abbrev pub Bytes : List ℕ → Type 0
@@ -97,14 +95,14 @@ pub data Told : Type 0 where
   refused : ℕ → ℕ → Told
 
 -- an answer of the code, with document 01's number and place
-abbrev pub told : Answer → Told
-told Accepted = accepted
-told (Refused r place) = refused (number_of r) place
+abbrev pub told : Either (Unit {0}) Refused → Told
+told (Ok u) = accepted
+told (Err r) = refused (number_of r.refusal) r.place
 
 -- the tests of a refusal with its number, and if they pass what follows
 abbrev pub unless : ℕ → Verdict → Told → Told
-unless number Good next = next
-unless number (Bad place) next = refused number place
+unless number (Ok u) next = next
+unless number (Err place) next = refused number place
 
 -- "File tests run 1 to 7, places rising."
 unfoldable pub answer_in : List ℕ → Network → Told
@@ -143,5 +141,6 @@ unfoldable pub read_of : List ℕ → Result
 read_of s = record { answer = answer_in s (network_of s); network = or_none (answer_in s (network_of s)) (network_of s) }
 
 -- a reading of the code, in these terms
-abbrev pub result_of : Reading → Result
-result_of r = record { answer = told r.answer; network = r.network }
+abbrev pub result_of : Either Network Refused → Result
+result_of (Ok n) = record { answer = accepted; network = n }
+result_of (Err r) = record { answer = refused (number_of r.refusal) r.place; network = no_network }

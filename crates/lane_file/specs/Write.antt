@@ -1,11 +1,10 @@
 -- Document 01, "Refusal table", 15 and 16: what writing a lane file answers, and what it leaves in the buffer.
 -- Assumes nothing.
-use Rattle.std.specs.Prelude.{cond, not, List, ◌++◌, ℕ, ltb, length, drop}
+use Rattle.std.specs.Prelude.{cond, not, List, ◌++◌, ℕ, ltb, length, drop, Result, Ok, Err}
+use Rattle.base.specs.declared.Refusal.{Refusal}
 use Rattle.base.specs.Refusals.{number_of}
 use Rattle.network.specs.declared.Network.{Network}
 use Rattle.network.specs.Rules.{passes}
-use Rattle.lane_file.specs.declared.Written.{Written}
-use Rattle.lane_file.specs.declared.Written.TheVariants.{Length, Denied}
 use Rattle.lane_file.specs.File.{size_of, file_of}
 
 pub data Wrote : Type 0 where
@@ -13,9 +12,9 @@ pub data Wrote : Type 0 where
   denied : ℕ → Wrote
 
 -- an answer of the code, with document 01's number
-abbrev pub wrote_of : Written → Wrote
-wrote_of (Length n) = wrote n
-wrote_of (Denied r) = denied (number_of r)
+abbrev pub wrote_of : Result ℕ Refusal → Wrote
+wrote_of (Ok n) = wrote n
+wrote_of (Err r) = denied (number_of r)
 
 pub record Outcome : Type 0 where
   pub answer : Wrote

@@ -2,23 +2,10 @@
 #![tactic(auto)]
 
 use base::Refusal;
-use network::Network;
 
-#[derive(Drop)]
-pub enum Answer {
-    Accepted,
-    Refused(Refusal, usize),
-}
-
-// The answer, and the network of an accepted file; beside a refusal, the network that is all zero.
-#[derive(Drop)]
-pub struct Reading {
-    pub answer: Answer,
-    pub network: Network,
-}
-
-#[derive(Drop)]
-pub enum Written {
-    Length(usize),
-    Denied(Refusal),
+// Why a file is no network's, and the place of what is wrong: a block, a byte, a slot, a record or an instruction, as the refusal has it.
+#[derive(Clone, Copy, PartialEq, Eq)]
+pub struct Refused {
+    pub refusal: Refusal,
+    pub place: usize,
 }

@@ -1,5 +1,1 @@
-pub mod Fresh
-pub mod Lanes
 pub mod Next
-pub mod Parting
-pub mod Zip

@@ -1,11 +1,11 @@
--- The process of a sound lane that is picked or looked at: its place in the arrays, and the instruction at which it stands.
+-- The process of a sound lane that is picked or looked at, and the instruction at which it stands.
 -- Assumes nothing.
 use mathlib.Core.Path.{◌≡◌}
+use mathlib.Core.Bool.{true}
 use Prim.Native.Nat.{ℕ, ◌+◌, ◌<◌}
 use native.Mathlib.Omega.{arith}
 use borrow.Author.Tests.{lt-ltb}
 use Rattle.network.specs.declared.Network.{Network}
-use Rattle.network.specs.declared.Instruction.{Instruction}
 use Rattle.network.specs.Code.{instruction_at}
 use Rattle.network.specs.Rules.{start_of, count_of}
 use Rattle.network.proofs.Passed.{passed}
@@ -13,7 +13,8 @@ use Rattle.network.proofs.Slot.{ends_within}
 use Rattle.lane.specs.declared.Lane.{Lane}
 use Rattle.lane.specs.State.{standing_of, stands_at}
 use Rattle.lane.specs.Pick.{instruction_for}
-use Rattle.lane.proofs.SoundLaws.{Sound}
+use Rattle.lane.specs.Sound.{sound_of}
+use Rattle.lane.proofs.SoundLaws.{Sound, sound_says}
 
 -- process p is there, and the instruction at which it stands lies in the code
 pub record Next (n : Network) (l : Lane) (p : ℕ) : Type 0 where
@@ -29,13 +30,11 @@ next_of l p s h =
     let w = ends_within l.network e.slots_good p h in
     record { there = h; low = omega (arith, e.processes_high); position = m; place = omega (arith, e.total_high) }
 
+pub place_of : (l : Lane) (p : ℕ) → sound_of l ≡ true → p < l.network.processes → start_of l.network p + (standing_of l p).position < 1016
+place_of l p s h = (next_of l p (sound_says l s) h).place
+
 -- the instruction that is fetched is the one at which process p stands
-pub instruction_is :
-    {n : Network} (l : Lane) (p : ℕ) {at : ℕ} {i : Instruction}
-    → n ≡ l.network
-    → (standing_of l p).position < count_of n p
-    → at ≡ start_of n p + (standing_of l p).position
-    → i ≡ instruction_at l.network.code at
-    → i ≡ instruction_for p l
+pub stands : (l : Lane) (p : ℕ) → sound_of l ≡ true → p < l.network.processes
+    → instruction_at l.network.code (start_of l.network p + (standing_of l p).position) ≡ instruction_for p l
 unfolding stands_at
-instruction_is {n} l p same h e₁ e₂ = rw (e₂, e₁, ← same, lt-ltb (standing_of l p).position (count_of n p) h)
+stands l p s h = rw (lt-ltb (standing_of l p).position (count_of l.network p) (next_of l p (sound_says l s) h).position)

@@ -6,29 +6,22 @@ ghost use Rattle.base.specs.Tests.{in_turn};
 ghost use Rattle.network.specs.Rules.{total, records, instructions};
 ghost use Rattle.lane_file.specs.Read.{blocks, slots_in, unused_from, code_rest, rest_in, accepted, told, unless, no_network, read_of, result_of};
 
-use base::{Refusal, Verdict};
-use lane_file::{Answer, Reading};
+use base::Refusal;
+use lane_file::Refused;
 use network::Network;
 
 // 4: the first wrong process slot, or 16 if K does not suit the total. Eight code blocks hold 1,016 instructions.
-fn slots_in(s: &[u8], net: Network) -> Verdict
-    requires { (5 < length s.now) × (get_or s.now 5 0 ≤ 8) × (net.processes ≤ 16) }
-    ensures { result ≡ slots_in s.now net }
+fn slots_in(s: &[u8], net: &Network) -> Result<(), usize>
+    requires { (5 < length s.now) × (get_or s.now 5 0 ≤ 8) × (net.now.processes ≤ 16) }
+    ensures { result ≡ slots_in s.now net.now }
 {
-    let v = network::slots(&net.first, &net.count, net.processes);
-    let Verdict::Good = v else {
-        return v;
-    };
+    network::slots(net)?;
     let place = 16;
-    let instructions = network::total(&net.first, &net.count, net.processes);
-    if 1016 < instructions {
-        return Verdict::Bad(place);
+    let instructions = network::total(net);
+    if 1016 < instructions || usize::from(s[5]) != (instructions + 126) / 127 {
+        return Err(place);
     }
-    let k = s[5] as usize;
-    if k != (instructions + 126) / 127 {
-        return Verdict::Bad(place);
-    }
-    Verdict::Good
+    Ok(())
 }
 
 // 6: where the unused instructions of code block k begin.
@@ -36,136 +29,97 @@ fn unused_from(instructions: usize, k: usize) -> usize
     requires { (1 ≤ k) × (k ≤ 8) × (instructions ≤ 1016) }
     ensures { result ≡ unused_from instructions k }
 {
-    let before = 508 * (k - 1);
-    let bytes = 4 * instructions;
-    if bytes <= before {
-        return 512 * k;
-    }
-    let used = bytes - before;
-    if 508 < used {
-        return 512 * k + 508;
-    }
-    512 * k + used
+    512 * k + (4 * instructions).saturating_sub(508 * (k - 1)).min(508)
 }
 
 // The unused instructions of code block k, and its number.
-fn code_rest(s: &[u8], instructions: usize, k: usize) -> Verdict
+#[tactic(auto, unfolding(lane_file::specs::Read::code_rest))]
+fn code_rest(s: &[u8], instructions: usize, k: usize) -> Result<(), usize>
     requires { (1 ≤ k) × (k ≤ 8) × (instructions ≤ 1016) × (512 * k + 512 ≤ length s.now) }
     ensures { result ≡ code_rest s.now instructions k }
 {
     let end = 512 * k + 508;
     let last = 512 * k + 509;
-    let v = base::zeros(s, unused_from(instructions, k), end);
-    let Verdict::Good = v else {
-        return v;
-    };
-    let high = s[end] as usize;
-    if high != k / 256 {
-        return Verdict::Bad(end);
+    base::zeros(s, unused_from(instructions, k), end)?;
+    if usize::from(s[end]) != k / 256 {
+        return Err(end);
     }
-    let low = s[last] as usize;
-    if low != k % 256 {
-        return Verdict::Bad(last);
+    if usize::from(s[last]) != k % 256 {
+        return Err(last);
     }
-    Verdict::Good
+    Ok(())
 }
 
 // The same of each code block in turn.
-fn code_rests(s: &[u8], instructions: usize) -> Verdict
+#[tactic(auto, using(base::proofs::Tests::in_order))]
+fn code_rests(s: &[u8], instructions: usize) -> Result<(), usize>
     requires { (1024 ≤ length s.now) × (length s.now ≤ 4608) × (instructions ≤ 1016) }
     ensures { result ≡ in_turn (code_rest s.now instructions) 1 (blocks s.now - 1) }
 {
     let blocks = s.len() / 512;
-    let mut k = 1;
-    while k < blocks {
-        let v = code_rest(s, instructions, k);
-        let Verdict::Good = v else {
-            return v;
-        };
-        k += 1;
+    for k in 1..blocks {
+        code_rest(s, instructions, k)?;
     }
-    Verdict::Good
+    Ok(())
 }
 
 // The first byte that must be zero and is not, or that is wrong in a block's number.
-fn rest(s: &[u8], net: Network, instructions: usize) -> Verdict
-    requires { (1024 ≤ length s.now) × (length s.now ≤ 4608) × (instructions ≤ 1016) × (instructions ≡ total net) × (net.processes ≤ 16) × (net.channels ≤ 32) }
-    ensures { result ≡ rest_in s.now net }
+#[tactic(auto, unfolding(lane_file::specs::Read::rest_in))]
+fn rest(s: &[u8], net: &Network) -> Result<(), usize>
+    requires { (1024 ≤ length s.now) × (length s.now ≤ 4608) × (total net.now ≤ 1016) × (net.now.processes ≤ 16) × (net.now.channels ≤ 32) }
+    ensures { result ≡ rest_in s.now net.now }
 {
-    let v = base::zeros(s, 6, 8);
-    let Verdict::Good = v else {
-        return v;
-    };
-    let slots = base::zeros(s, 8 + 4 * net.processes, 72);
-    let Verdict::Good = slots else {
-        return slots;
-    };
-    let records = base::zeros(s, 72 + 4 * net.channels, 510);
-    let Verdict::Good = records else {
-        return records;
-    };
-    code_rests(s, instructions)
+    base::zeros(s, 6, 8)?;
+    base::zeros(s, 8 + 4 * net.processes, 72)?;
+    base::zeros(s, 72 + 4 * net.channels, 510)?;
+    code_rests(s, network::total(net))
 }
 
-// A refusal, and beside it the network that is all zero.
-fn refused(r: Refusal, place: usize) -> Reading
-    ensures { (result.answer ≡ Answer.Refused r place) × (result.network ≡ no_network) }
+// The network that stands for a file that is refused, all zero: for who goes on without one.
+pub fn no_network() -> Network
+    ensures { result ≡ no_network }
 {
-    Reading {
-        answer: Answer::Refused(r, place),
-        network: Network {
-            processes: 0,
-            channels: 0,
-            first: [0; 16],
-            count: [0; 16],
-            sender: [0; 32],
-            receiver: [0; 32],
-            capacity: [0; 32],
-            code: [0; 4064],
-        },
+    Network {
+        processes: 0,
+        channels: 0,
+        first: [0; 16],
+        count: [0; 16],
+        sender: [0; 32],
+        receiver: [0; 32],
+        capacity: [0; 32],
+        code: [0; 4064],
     }
 }
 
 // The tests 4 to 7 of a network that was read from a file with a right header.
-fn tested(s: &[u8], net: Network) -> Answer
-    requires { (1024 ≤ length s.now) × (length s.now ≤ 4608) × (get_or s.now 5 0 ≤ 8) × (net.processes ≤ 16) × (net.channels ≤ 32) }
-    ensures { told result ≡ unless 4 (slots_in s.now net) (unless 5 (records net) (unless 6 (rest_in s.now net) (unless 7 (instructions net) accepted))) }
+fn tested(s: &[u8], net: &Network) -> Result<(), Refused>
+    requires { (1024 ≤ length s.now) × (length s.now ≤ 4608) × (get_or s.now 5 0 ≤ 8) × (net.now.processes ≤ 16) × (net.now.channels ≤ 32) }
+    ensures { told result ≡ unless 4 (slots_in s.now net.now) (unless 5 (records net.now) (unless 6 (rest_in s.now net.now) (unless 7 (instructions net.now) accepted))) }
 {
-    let slots = slots_in(s, net);
-    if let Verdict::Bad(place) = slots {
-        return Answer::Refused(Refusal::Slot, place);
-    }
-    let records = network::records(net);
-    if let Verdict::Bad(place) = records {
-        return Answer::Refused(Refusal::Record, place);
-    }
-    let total = network::total(&net.first, &net.count, net.processes);
-    let zero = rest(s, net, total);
-    if let Verdict::Bad(place) = zero {
-        return Answer::Refused(Refusal::Zero, place);
-    }
-    let instructions = network::instructions(net);
-    if let Verdict::Bad(place) = instructions {
-        return Answer::Refused(Refusal::Instruction, place);
-    }
-    Answer::Accepted
+    slots_in(s, net).map_err(|place| Refused {
+        refusal: Refusal::Slot,
+        place,
+    })?;
+    network::records(net).map_err(|place| Refused {
+        refusal: Refusal::Record,
+        place,
+    })?;
+    rest(s, net).map_err(|place| Refused {
+        refusal: Refusal::Zero,
+        place,
+    })?;
+    network::instructions(net).map_err(|place| Refused {
+        refusal: Refusal::Instruction,
+        place,
+    })
 }
 
-// What a file is: accepted, with its network, or the first refusal and its place.
-pub fn read(s: &[u8]) -> Reading
+// What a file is: its network, or the first refusal and its place.
+pub fn read(s: &[u8]) -> Result<Network, Refused>
     ensures { result_of result ≡ read_of s.now }
 {
-    let first = file_blocks::opened(s);
-    if let Answer::Refused(r, place) = first {
-        return refused(r, place);
-    }
+    file_blocks::opened(s)?;
     let net = file_blocks::network_of(s);
-    let answer = tested(s, net);
-    if let Answer::Refused(r, place) = answer {
-        return refused(r, place);
-    }
-    Reading {
-        answer: Answer::Accepted,
-        network: net,
-    }
+    tested(s, &net)?;
+    Ok(net)
 }

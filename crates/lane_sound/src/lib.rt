@@ -1,13 +1,14 @@
 // The lane at the start, and whether a lane is sound.
 #![tactic(auto)]
 
-ghost use Rattle.std.specs.Prelude.{◌≡◌, false, ◌&&◌, ◌≤◌};
+ghost use Rattle.std.specs.Prelude.{◌≡◌, true, false, ◌&&◌, ◌≤◌, eqb, MatchResult};
 ghost use Rattle.base.specs.Lists.{table};
+ghost use Rattle.base.specs.declared.Refusal.TheVariants.{Unsound};
 ghost use Rattle.lane.specs.State.{fresh_channel, fresh_of};
 ghost use Rattle.lane.specs.Sound.{unused_standings, unused_registers, unused_channels, sound_of};
 
-use base::Verdict;
-use lane::{Lane, Standing};
+use base::Refusal;
+use lane::{Lane, SoundLane, Standing};
 use network::Network;
 use process::{Channel, Condition};
 
@@ -25,25 +26,19 @@ fn fresh_channel(capacity: u16) -> Channel
 }
 
 // The channels at the start, with the file's capacities.
-fn fresh_channels(net: Network) -> [Channel; 32]
-    ensures { result ≡ table 32 (fresh_channel net) }
+fn fresh_channels(network: &Network) -> [Channel; 32]
+    ensures { result ≡ table 32 (fresh_channel network.now) }
 {
-    let mut channels = [fresh_channel(0); 32];
-    let mut c = 0;
-    while c < 32 {
-        channels[c] = fresh_channel(net.capacity[c]);
-        c += 1;
-    }
-    channels
+    network.capacity.map(fresh_channel)
 }
 
 // The lane of a network at the start, of any network: of one that does not pass the file's rules it is not sound.
-pub fn fresh(net: Network) -> Lane
-    ensures { result ≡ fresh_of net }
+pub fn fresh(network: Network) -> Lane
+    ensures { result ≡ fresh_of network }
 {
-    let channels = fresh_channels(net);
+    let channels = fresh_channels(&network);
     Lane {
-        network: net,
+        network,
         registers: [0; 128],
         processes: [Standing {
             position: 0,
@@ -56,61 +51,51 @@ pub fn fresh(net: Network) -> Lane
 }
 
 // Entries beyond those in use are zero.
-fn rest_zero(
-    registers: [i32; 128],
-    processes: [Standing; 16],
-    channels: [Channel; 32],
-    used: usize,
-    inside: usize,
-) -> bool
-    requires { used ≤ 16 }
-    ensures { (lane : Lane) → lane.registers ≡ registers → lane.processes ≡ processes → lane.channels ≡ channels → lane.network.processes ≡ used → lane.network.channels ≡ inside → result ≡ (unused_standings lane && unused_registers lane && unused_channels lane) }
+fn rest_zero(lane: &Lane) -> bool
+    requires { lane.now.network.processes ≤ 16 }
+    ensures { result ≡ (unused_standings lane.now && unused_registers lane.now && unused_channels lane.now) }
 {
-    let Verdict::Good = sound_parts::unused_standings(processes, used) else {
-        return false;
-    };
-    let Verdict::Good = sound_parts::unused_registers(&registers, used) else {
-        return false;
-    };
-    let Verdict::Good = sound_parts::unused_channels(channels, inside) else {
-        return false;
-    };
-    true
+    sound_parts::unused_standings(lane).is_ok()
+        && sound_parts::unused_registers(lane).is_ok()
+        && sound_parts::unused_channels(lane).is_ok()
+}
+
+// All places are in use.
+fn whole(network: &Network) -> bool
+    ensures { result ≡ (eqb network.now.processes 16 && eqb network.now.channels 32) }
+{
+    network.processes == 16 && network.channels == 32
 }
 
 // Whether a lane, any value of the record, is sound. The network is tested first, so that each number read is in place. Where all places are in use none
-// has to be zero. Each test has records of its own out of the lane: those that serve two tests would be copied once more for each.
-pub fn sound(lane: Lane) -> bool
-    ensures { result ≡ sound_of lane }
+// has to be zero.
+#[tactic(auto, using(crate::proofs::Parts::few, crate::proofs::Parts::few_channels, crate::proofs::Parts::bad_network, crate::proofs::Parts::bad_positions, crate::proofs::Parts::bad_limits))]
+pub fn sound(lane: &Lane) -> bool
+    ensures { result ≡ sound_of lane.now }
 {
-    if !passing::passes(lane.network) {
+    if !passing::passes(&lane.network) {
         return false;
     }
-    let used = lane.network.processes;
-    let inside = lane.network.channels;
-    let count = lane.network.count;
-    let mut marks = [0u16; 256];
-    let processes = lane.processes;
-    if !sound_parts::standings(&count, processes, used, &mut marks) {
+    if !sound_parts::positions(lane) {
         return false;
     }
-    let channels = lane.channels;
-    if !sound_parts::limits(channels, inside) {
+    if !sound_parts::limits(lane) {
         return false;
     }
-    let sender = lane.network.sender;
-    let receiver = lane.network.receiver;
-    let connected = lane.channels;
-    if !sound_parts::ends(&sender, &receiver, &marks, connected, inside) {
+    if !sound_parts::ends(lane, &sound_parts::marks(lane)) {
         return false;
     }
-    if used == 16 {
-        if inside == 32 {
-            return true;
-        }
+    whole(&lane.network) || rest_zero(lane)
+}
+
+// A lane as a sound one, exactly where it is. The bench, whose lane is fresh, makes a sound one without the test.
+#[tactic(auto, using(crate::proofs::Parts::sound_few, crate::proofs::Parts::sound_few_channels))]
+pub fn tested(lane: Lane) -> Result<SoundLane, Refusal>
+    ensures { MatchResult result (λ s. (s.lane ≡ lane) × (sound_of lane ≡ true)) (λ r. (r ≡ Unsound) × (sound_of lane ≡ false)) }
+{
+    if sound(&lane) {
+        Ok(SoundLane { lane })
+    } else {
+        Err(Refusal::Unsound)
     }
-    let registers = lane.registers;
-    let standings = lane.processes;
-    let records = lane.channels;
-    rest_zero(registers, standings, records, used, inside)
 }

@@ -1,92 +1,91 @@
-// Feed, close and take at one channel, on the lent arrays of a lane's channels. The crates above have made the tests before (15, 16, 8, 9), and count an
-// accepted call where they keep that count.
+// Feed, close and take at one channel of a sound lane. The crates above have made the tests before (15, 16, 8, 9); an accepted call is counted here.
 #![tactic(auto)]
 
-ghost use Rattle.std.specs.Prelude.{◌<◌};
-ghost use Rattle.lane_parts.specs.Parts.{ThirtyTwo};
-ghost use Rattle.lent_calls.specs.OneChannel.{Feedable, FedIn, ClosedIn, Takeable, TakenIn};
+ghost use Rattle.std.specs.Prelude.{◌≡◌, ◌<◌, List, ℤ};
+ghost use Rattle.lane.specs.State.{world};
+ghost use Rattle.lane.specs.Calls.{called, feed_told, take_told, receiver_ended, taken};
+ghost use Rattle.lent_calls.specs.OneChannel.{fed_or_not, closed_or_not};
 
 use base::Refusal;
-use lane::{FeedAnswer, TakeAnswer};
-use lane_parts::{channel_at, slot};
+use lane::SoundLane;
+use lane_parts::{count, ended_at, slot};
 
-// A message from outside into channel c; `gone`: its receiver has ended, and then the message is taken and not stored. Public for the calls and the
-// bench, which know that the lane is sound.
+// A message from outside into channel c; one whose receiver has ended is taken and not stored. Public for the calls and the bench, which know that there
+// is such a channel.
 pub fn feed_in(
+    sound: &mut SoundLane,
+    cells: &mut [i32; 8192],
     c: usize,
     v: i32,
-    gone: bool,
-    capacity: &[u16; 32],
-    oldest: &[u16; 32],
-    held: &mut [u16; 32],
-    peak: &mut [u16; 32],
-    closed: &[bool; 32],
-    cells: &mut [i32],
-) -> FeedAnswer
-    requires { Feedable c capacity.now oldest.now held.old peak.old closed.now cells.old }
-    ensures { FedIn c v gone capacity.now oldest.now held.old peak.old closed.now cells.old result held.new peak.new cells.new }
+) -> Result<(), Refusal>
+    requires { c < sound.old.lane.network.channels }
+    ensures { (called (feed_told result) (world sound.new.lane cells.new) ≡ fed_or_not c v (world sound.old.lane cells.old))
+        × (sound.new.lane.network ≡ sound.old.lane.network) }
 {
-    let h = channel_at(c, capacity, oldest, held, peak, closed);
-    if h.closed {
-        return FeedAnswer::Refused(Refusal::Closed);
+    let gone = ended_at(&sound.lane, sound.lane.network.receiver[c]);
+    feed_to(sound, cells, c, gone, v)
+}
+
+// The same where it is known whether the receiver has ended (`gone`): a burst asks once for all its values, and a value then costs it less.
+#[tactic(auto, using(crate::proofs::Stays::within, crate::proofs::Stays::put_stays, crate::proofs::Stays::counted_stays))]
+pub fn feed_to(
+    sound: &mut SoundLane,
+    cells: &mut [i32; 8192],
+    c: usize,
+    gone: bool,
+    v: i32,
+) -> Result<(), Refusal>
+    requires { (c < sound.old.lane.network.channels) × (gone ≡ receiver_ended c (world sound.old.lane cells.old)) }
+    ensures { (called (feed_told result) (world sound.new.lane cells.new) ≡ fed_or_not c v (world sound.old.lane cells.old))
+        × (sound.new.lane.network ≡ sound.old.lane.network) × (sound.new.lane.processes ≡ sound.old.lane.processes) }
+{
+    let channel = sound.lane.channels[c];
+    if channel.closed {
+        return Err(Refusal::Closed);
     }
-    if gone {
-        return FeedAnswer::Accepted;
+    if !gone {
+        if channel.held == channel.capacity {
+            return Err(Refusal::Full);
+        }
+        cells[slot(c, channel, channel.held)] = v;
+        sound.lane.channels[c] = channel.put();
     }
-    if h.held == h.capacity {
-        return FeedAnswer::Refused(Refusal::Full);
-    }
-    cells[slot(c, h, h.held)] = v;
-    let more = h.put();
-    held[c] = more.held;
-    peak[c] = more.peak;
-    FeedAnswer::Accepted
+    count(&mut sound.lane);
+    Ok(())
 }
 
 // Channel c closed from outside. Public for the calls and the bench, which know that there is such a channel.
-pub fn close_in(
-    c: usize,
-    capacity: &[u16; 32],
-    oldest: &[u16; 32],
-    held: &[u16; 32],
-    peak: &[u16; 32],
-    closed: &mut [bool; 32],
-) -> FeedAnswer
-    requires { (c < 32) × ThirtyTwo capacity.now oldest.now held.now peak.now closed.old }
-    ensures { ClosedIn c capacity.now oldest.now held.now peak.now closed.old result closed.new }
+#[tactic(auto, using(crate::proofs::Stays::close_stays))]
+pub fn close_in(sound: &mut SoundLane, c: usize) -> Result<(), Refusal>
+    requires { c < sound.old.lane.network.channels }
+    ensures { ((cells : List ℤ) → called (feed_told result) (world sound.new.lane cells) ≡ closed_or_not c (world sound.old.lane cells))
+        × (sound.new.lane.network ≡ sound.old.lane.network) }
 {
-    let was = channel_at(c, capacity, oldest, held, peak, closed);
+    let was = sound.lane.channels[c];
     if was.closed {
-        return FeedAnswer::Refused(Refusal::Closed);
+        return Err(Refusal::Closed);
     }
-    let shut = was.close();
-    closed[c] = shut.closed;
-    FeedAnswer::Accepted
+    sound.lane.channels[c] = was.close();
+    count(&mut sound.lane);
+    Ok(())
 }
 
-// The oldest message of channel c, or the end, to the outside. Public for the calls and the bench, which know that the lane is sound.
-pub fn take_in(
-    c: usize,
-    capacity: &[u16; 32],
-    oldest: &mut [u16; 32],
-    held: &mut [u16; 32],
-    peak: &[u16; 32],
-    closed: &[bool; 32],
-    cells: &[i32],
-) -> TakeAnswer
-    requires { Takeable c capacity.now oldest.old held.old peak.now closed.now cells.now }
-    ensures { TakenIn c capacity.now oldest.old held.old peak.now closed.now cells.now result oldest.new held.new }
+// The oldest message of channel c, or none, the end, to the outside. Public for the calls and the bench, which know that there is such a channel.
+#[tactic(auto, using(crate::proofs::Stays::place, crate::proofs::Stays::get_stays, crate::proofs::Stays::counted_stays))]
+pub fn take_in(sound: &mut SoundLane, cells: &[i32; 8192], c: usize) -> Result<Option<i32>, Refusal>
+    requires { c < sound.old.lane.network.channels }
+    ensures { (called (take_told result) (world sound.new.lane cells.now) ≡ taken c (world sound.old.lane cells.now))
+        × (sound.new.lane.network ≡ sound.old.lane.network) }
 {
-    let h = channel_at(c, capacity, oldest, held, peak, closed);
-    if h.held == 0 {
-        if !h.closed {
-            return TakeAnswer::Refused(Refusal::Empty);
+    let channel = sound.lane.channels[c];
+    if channel.held == 0 {
+        if !channel.closed {
+            return Err(Refusal::Empty);
         }
-        return TakeAnswer::End;
+        count(&mut sound.lane);
+        return Ok(None);
     }
-    let left = h.get();
-    let v = cells[slot(c, h, 0)];
-    oldest[c] = left.oldest;
-    held[c] = left.held;
-    TakeAnswer::Value(v)
+    sound.lane.channels[c] = channel.get();
+    count(&mut sound.lane);
+    Ok(Some(cells[slot(c, channel, 0)]))
 }

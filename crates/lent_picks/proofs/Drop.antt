@@ -13,19 +13,6 @@ use Rattle.network.specs.Rules.{receives, sends}
 use Rattle.process.specs.declared.Channel.{Channel}
 use Rattle.process.specs.Channels.{no_channel, drop_one}
 use Rattle.lane.specs.Pick.{drop_from}
-use Rattle.lent_picks.specs.Finish.{ends}
-
--- only the ends of the channels say which are dropped
-drop_ends : (n : Network) (p c : ℕ) (hs : List Channel) → drop_from (ends n.sender n.receiver n.channels) p c hs ≡ drop_from n p c hs
-drop_ends n p c [] = refl
-drop_ends n p c (h ∷ hs) = ap (λ (t : List Channel). drop_one (sends n p c) (receives n p c) h ∷ t) (drop_ends n p (suc c) hs)
-
-pub drop_is :
-    (n m : Network) (p : ℕ) {hs' : List Channel} (hs : List Channel)
-    → n ≡ m
-    → hs' ≡ drop_from (ends n.sender n.receiver n.channels) p 0 hs
-    → hs' ≡ drop_from m p 0 hs
-drop_is n m p hs same e = rw (← same) (e ∙ drop_ends n p 0 hs)
 
 -- channels that are not there stay as they are
 pub drop_beyond : (n : Network) (p c : ℕ) (hs : List Channel) → n.channels ≤ c → drop_from n p c hs ≡ hs

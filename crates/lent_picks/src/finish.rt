@@ -1,94 +1,80 @@
-// What is left to do after an instruction: the process moves on, or it ends and its channels are dropped.
-ghost use Rattle.std.specs.Prelude.{◌≡◌, ◌≤◌, ◌<◌, get_or, set};
-ghost use Rattle.process.specs.Want.{counted};
+// What is left to do after an instruction: the process moves on, or it ends and its channels are dropped. Either is a move.
+ghost use Rattle.std.specs.Prelude.{◌≡◌, ◌≤◌, ◌<◌, List, ℤ};
 ghost use Rattle.process.specs.Channels.{drop_one};
+ghost use Rattle.lane.specs.State.{world, standing_of, put_channels};
 ghost use Rattle.lane.specs.Pick.{drop_from};
-ghost use Rattle.lane_parts.specs.Parts.{channels_of, ThirtyTwo};
-ghost use Rattle.lent_picks.specs.Finish.{ends};
+ghost use Rattle.lane.specs.Calls.{pick_says};
+ghost use Rattle.lent_steps.specs.Steps.{stand, finish, says};
 
-use process::{Channel, counted};
+use lane::{Lane, PickAnswer};
+use process::{Channel, Condition};
+use register_steps::Did;
 
-// ---- the process
-// Process p goes to a position; 1, for the move. Public for the pick, which knows that the process is there.
-pub fn advance(p: usize, to: u16, positions: &mut [u16; 16], moves: &mut [u64; 16]) -> u64
-    requires { p < 16 }
-    ensures { (result ≡ 1) × (positions.new ≡ set positions.old p to) × (moves.new ≡ set moves.old p (counted (get_or moves.old p 0))) }
+// What process p has left to do after what its instruction did, at channel c. Public for the pick, which knows that process and channels are there.
+#[inline(always)]
+#[tactic(auto, unfolding(lent_steps::specs::Steps::finish))]
+pub fn finish(lane: &mut Lane, p: usize, did: Did, c: usize) -> PickAnswer
+    requires { (p < 16) × (lane.old.network.channels ≤ 32) × ((standing_of lane.old p).position < 1016) }
+    ensures { ((cells : List ℤ) → world lane.new cells ≡ finish did p (world lane.old cells)) × (pick_says result ≡ says did c) }
 {
-    positions[p] = to;
-    moves[p] = counted(moves[p]);
-    1
+    match did {
+        Did::On => advance(lane, p, lane.processes[p].position + 1),
+        Did::To(next) => advance(lane, p, next as u16),
+        Did::WaitEmpty => PickAnswer::WaitingEmpty(c),
+        Did::WaitFull => PickAnswer::WaitingFull(c),
+        Did::Stop => end(lane, p, Condition::Stopped),
+        Did::Fault => end(lane, p, Condition::Faulted),
+    }
 }
 
-// Process p ends where it stands, stopped (1) or faulted (2), and its channels are dropped; 1, for the move. Public for the pick, which knows
-// that process and channels are there.
-pub fn end(
-    p: usize,
-    condition: u8,
-    sender: &[u8; 32],
-    receiver: &[u8; 32],
-    channels: usize,
-    conditions: &mut [u8; 16],
-    moves: &mut [u64; 16],
-    capacity: &[u16; 32],
-    oldest: &[u16; 32],
-    held: &mut [u16; 32],
-    peak: &[u16; 32],
-    closed: &mut [bool; 32],
-) -> u64
-    requires { (p < 16) × (channels ≤ 32) × ThirtyTwo capacity.now oldest.now held.old peak.now closed.old }
-    ensures { (result ≡ 1) × (conditions.new ≡ set conditions.old p condition) × (moves.new ≡ set moves.old p (counted (get_or moves.old p 0))) × (channels_of capacity.now oldest.now held.new peak.now closed.new ≡ drop_from (ends sender.now receiver.now channels) p 0 (channels_of capacity.now oldest.now held.old peak.now closed.old)) × ThirtyTwo capacity.now oldest.now held.new peak.now closed.new }
+// ---- the process
+// Process p goes to a position.
+#[inline(always)]
+fn advance(lane: &mut Lane, p: usize, to: u16) -> PickAnswer
+    requires { p < 16 }
+    ensures { (result ≡ PickAnswer.Moved) × (lane.new ≡ stand p to (standing_of lane.old p).condition lane.old) }
 {
-    conditions[p] = condition;
-    drop_all(
-        sender, receiver, channels, capacity, oldest, held, peak, closed, p,
-    );
-    moves[p] = counted(moves[p]);
-    1
+    let standing = &mut lane.processes[p];
+    standing.position = to;
+    standing.moves = standing.moves.saturating_add(1);
+    PickAnswer::Moved
+}
+
+// Process p ends where it stands, stopped or faulted, and its channels are dropped.
+#[inline(never)]
+fn end(lane: &mut Lane, p: usize, condition: Condition) -> PickAnswer
+    requires { (p < 16) × (lane.old.network.channels ≤ 32) }
+    ensures { (result ≡ PickAnswer.Moved) × (lane.new ≡ put_channels (drop_from lane.old.network p 0 lane.old.channels) (stand p (standing_of lane.old p).position condition lane.old)) }
+{
+    let standing = &mut lane.processes[p];
+    standing.condition = condition;
+    standing.moves = standing.moves.saturating_add(1);
+    drop_all(lane, p);
+    PickAnswer::Moved
 }
 
 // ---- the channels of a process that ended
 // A channel of which it was the sender is closed, one of which it was the receiver is emptied.
-fn drop_one(sends: bool, receives: bool, channel: Channel) -> Channel
+fn drop_one(sends: bool, receives: bool, mut channel: Channel) -> Channel
     ensures { result ≡ drop_one sends receives channel }
 {
     if sends {
-        if receives {
-            return channel.close().empty();
-        }
-        return channel.close();
+        channel = channel.close();
     }
     if receives {
-        return channel.empty();
+        channel = channel.empty();
     }
     channel
 }
 
-// Each of so many channels, by its sender and its receiver.
-fn drop_all(
-    sender: &[u8; 32],
-    receiver: &[u8; 32],
-    count: usize,
-    capacity: &[u16; 32],
-    oldest: &[u16; 32],
-    held: &mut [u16; 32],
-    peak: &[u16; 32],
-    closed: &mut [bool; 32],
-    p: usize,
-)
-    requires { (count ≤ 32) × ThirtyTwo capacity.now oldest.now held.old peak.now closed.old }
-    ensures { (channels_of capacity.now oldest.now held.new peak.now closed.new ≡ drop_from (ends sender.now receiver.now count) p 0 (channels_of capacity.now oldest.now held.old peak.now closed.old)) × ThirtyTwo capacity.now oldest.now held.new peak.now closed.new }
+// Each channel, by its sender and its receiver.
+fn drop_all(lane: &mut Lane, p: usize)
+    requires { lane.old.network.channels ≤ 32 }
+    ensures { lane.new ≡ put_channels (drop_from lane.old.network p 0 lane.old.channels) lane.old }
 {
-    let mut c = 0;
-    while c < count {
-        let sends = base::wide(sender[c]) == p;
-        let receives = base::wide(receiver[c]) == p;
-        let k = drop_one(
-            sends,
-            receives,
-            lane_parts::channel_at(c, capacity, oldest, held, peak, closed),
-        );
-        held[c] = k.held;
-        closed[c] = k.closed;
-        c += 1;
+    for c in 0..lane.network.channels {
+        let sends = lane.network.sender[c] as usize == p;
+        let receives = lane.network.receiver[c] as usize == p;
+        lane.channels[c] = drop_one(sends, receives, lane.channels[c]);
     }
 }

@@ -1,68 +1,36 @@
-// A pick on lent arrays: each changing array of a lane is lent by itself, and nothing of a lane is copied for a pick.
+// A pick on a lent lane: nothing of the lane is copied for it.
 #![tactic(auto)]
 
 mod finish;
 
-ghost use Rattle.lane_parts.specs.Parts.{parts, fixed};
-ghost use Rattle.lent_picks.specs.Finish.{Picking, Picked};
+ghost use Rattle.std.specs.Prelude.{◌≡◌, ◌<◌};
+ghost use Rattle.lane.specs.State.{world};
+ghost use Rattle.lane.specs.Calls.{called, pick_says, picked};
+ghost use Rattle.lane.specs.Pick.{pick_in, step_for, has_moved};
 
-use register_steps::Did;
+use lane::{PickAnswer, SoundLane};
+use lane_parts::{channel_of, instruction_of};
+use process::Condition;
 
-// One pick of process p; 1 if it moved. Public for the rounds and for the bench, which makes one for a byte; both have shown what it requires.
-pub fn pick_one(
-    p: usize,
-    code: &[u8; 4064],
-    first: &[u16; 16],
-    sender: &[u8; 32],
-    receiver: &[u8; 32],
-    channels: usize,
-    registers: &mut [i32; 128],
-    positions: &mut [u16; 16],
-    conditions: &mut [u8; 16],
-    moves: &mut [u64; 16],
-    capacity: &[u16; 32],
-    oldest: &mut [u16; 32],
-    held: &mut [u16; 32],
-    peak: &mut [u16; 32],
-    closed: &mut [bool; 32],
-    cells: &mut [i32],
-) -> u64
-    requires { Picking p (fixed code.now first.now sender.now receiver.now channels) (parts registers.old positions.old conditions.old moves.old capacity.now oldest.old held.old peak.old closed.old) cells.old }
-    ensures { Picked p (fixed code.now first.now sender.now receiver.now channels) (parts registers.old positions.old conditions.old moves.old capacity.now oldest.old held.old peak.old closed.old) cells.old result (parts registers.new positions.new conditions.new moves.new capacity.now oldest.new held.new peak.new closed.new) cells.new }
+// One pick of process p. Public for the rounds, the calls and the bench, which have shown that there is such a process.
+#[inline(always)]
+pub fn pick_one(sound: &mut SoundLane, cells: &mut [i32; 8192], p: usize) -> PickAnswer
+    requires { p < sound.old.lane.network.processes }
+    ensures { called (pick_says result) (world sound.new.lane cells.new) ≡ picked p (world sound.old.lane cells.old) }
 {
-    if conditions[p] != 0 {
-        return 0;
-    }
-    let at = positions[p];
-    let i = network::fetch(code, lane_parts::place(first[p], at));
-    let did = lent_steps::step(
-        i,
-        registers,
-        8 * p,
-        capacity,
-        oldest,
-        held,
-        peak,
-        closed,
-        receiver,
-        conditions,
-        cells,
-    );
-    match did {
-        Did::On => finish::advance(p, at + 1, positions, moves),
-        Did::To(next) => finish::advance(p, next as u16, positions, moves),
-        Did::Wait => 0,
-        Did::Stop => {
-            finish::end(
-                p, 1, sender, receiver, channels, conditions, moves, capacity, oldest, held, peak,
-                closed,
-            )
-        }
-        Did::Fault => {
-            finish::end(
-                p, 2, sender, receiver, channels, conditions, moves, capacity, oldest, held, peak,
-                closed,
-            )
-        }
-    }
+    let Condition::Live = sound.lane.processes[p].condition else {
+        return PickAnswer::Ended;
+    };
+    let i = instruction_of(sound, p);
+    let did = lent_steps::step(&mut sound.lane, cells, p, i);
+    finish::finish(&mut sound.lane, p, did, channel_of(i))
+}
+
+// The same, where only whether the process moved is asked for.
+#[inline(always)]
+pub fn moves(sound: &mut SoundLane, cells: &mut [i32; 8192], p: usize) -> bool
+    requires { p < sound.old.lane.network.processes }
+    ensures { (world sound.new.lane cells.new ≡ pick_in p (world sound.old.lane cells.old)) × (result ≡ has_moved (step_for p (world sound.old.lane cells.old)).outcome) × (sound.new.lane.network ≡ sound.old.lane.network) }
+{
+    matches!(pick_one(sound, cells, p), PickAnswer::Moved)
 }

@@ -23,21 +23,21 @@ use Rattle.lane.specs.declared.Lane.{Lane}
 use Rattle.lane.specs.State.{world, process_of, ended_at, channel_of}
 use Rattle.lane.specs.Pick.{channel_in}
 use Rattle.register_steps.specs.declared.Did.{Did}
-use Rattle.register_steps.specs.declared.Did.TheVariants.{On, To, Wait, Stop, Fault}
+use Rattle.register_steps.specs.declared.Did.TheVariants.{On, To, WaitEmpty, WaitFull, Stop, Fault}
 use Rattle.register_steps.specs.Divides.{did_by, file_by}
 use Rattle.lent_steps.specs.Steps.{with_state, At, Turned, Ready}
 use Rattle.lent_steps.proofs.Turns.{did_assign, did_on, did_send, did_jump, did_wait_empty, did_wait_full, did_stop, did_fault}
 
 -- ---- the fields of an instruction
-module _ {i : Instruction} {base : ℕ} {conditions capacity oldest held peak : List ℕ} {closed : List Bool} {cells : List ℤ} (k : Ready i base conditions capacity oldest held peak closed cells) where
+module _ {i : Instruction} {l : Lane} (k : Ready i l) where
   pub a_low : i.a < 8
   a_low = own_low k.count k.receives k.sends i k.right
 
-  pub two : (t : Bool) → register i.a && register i.b && t ≡ true → (base ≤ 120) × (i.a < 8) × (i.b < 8)
-  two t e = (k.low, a_low, second (register i.a) i.b t e)
+  pub two : (t : Bool) → register i.a && register i.b && t ≡ true → (i.a < 8) × (i.b < 8)
+  two t e = (a_low, second (register i.a) i.b t e)
 
-  pub three : register i.a && register i.b && register i.c ≡ true → (base ≤ 120) × (i.a < 8) × (i.b < 8) × (i.c < 8)
-  three e = (k.low, a_low, second (register i.a) i.b (register i.c) e, third (register i.a && register i.b) i.c e)
+  pub three : register i.a && register i.b && register i.c ≡ true → (i.a < 8) × (i.b < 8) × (i.c < 8)
+  three e = (a_low, second (register i.a) i.b (register i.c) e, third (register i.a && register i.b) i.c e)
 
 -- ---- 0 to 10
 module _ {l : Lane} {p : ℕ} {i : Instruction} (at : At l p i) (cells : List ℤ) where
@@ -132,7 +132,7 @@ module _ {l : Lane} {p : ℕ} {i : Instruction} (at : At l p i) (cells : List �
   unfolding want_live execute
   receive_end o z s = did_jump at cells i.c (rw (o, ← here, eq-eqb h.held 0 z, s))
 
-  pub receive_empty : i.op ≡ 11 → h.held ≡ 0 → h.closed ≡ false → Turned Wait p (world l cells) (world l cells)
+  pub receive_empty : i.op ≡ 11 → h.held ≡ 0 → h.closed ≡ false → Turned WaitEmpty p (world l cells) (world l cells)
   unfolding want_live execute
   receive_empty o z s = did_wait_empty at cells (rw (o, ← here, eq-eqb h.held 0 z, s))
 
@@ -153,7 +153,7 @@ module _ {l : Lane} {p : ℕ} {i : Instruction} (at : At l p i) (cells : List �
   unfolding want_live execute
   send_gone o s g = did_on at cells h (rw (o, ← here, s, ← g)) (rw here (sym (set-get_or l.channels (channel_in i) no_channel)))
 
-  pub send_full : i.op ≡ 12 → h.closed ≡ false → false ≡ ended_at l (receiver_of l.network (channel_in i)) → h.held ≡ h.capacity → Turned Wait p (world l cells) (world l cells)
+  pub send_full : i.op ≡ 12 → h.closed ≡ false → false ≡ ended_at l (receiver_of l.network (channel_in i)) → h.held ≡ h.capacity → Turned WaitFull p (world l cells) (world l cells)
   unfolding want_live execute
   send_full o s g f = did_wait_full at cells (rw (o, ← here, s, ← g, eq-eqb h.held h.capacity f))
 

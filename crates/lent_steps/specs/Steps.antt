@@ -1,6 +1,6 @@
 -- What an instruction did, as the code answers it, and what is left to do: with that the pick is whole.
 -- Assumes nothing.
-use Rattle.std.specs.Prelude.{Bool, true, false, ◌≡◌, List, ℕ, ◌+◌, ◌*◌, ◌≤◌, ◌<◌, length, get_or, set, ℤ}
+use Rattle.std.specs.Prelude.{Bool, true, false, ◌≡◌, List, ℕ, ◌+◌, ◌≤◌, ◌<◌, length, set, ℤ}
 use Rattle.network.specs.declared.Instruction.{Instruction}
 use Rattle.network.specs.Code.{fields_right}
 use Rattle.process.specs.declared.Condition.{Condition}
@@ -8,11 +8,11 @@ use Rattle.process.specs.declared.Condition.TheVariants.{Live, Stopped, Faulted}
 use Rattle.process.specs.declared.Channel.{Channel}
 use Rattle.process.specs.Want.{counted}
 use Rattle.lane.specs.declared.Lane.{Lane}
-use Rattle.lane.specs.State.{World, world, standing_of, is_ended, ended_at, put_channels}
-use Rattle.lane.specs.Pick.{channel_in, drop_from, instruction_for, step_for, pick_in, has_moved}
+use Rattle.lane.specs.State.{World, world, standing_of, channel_of, put_channels}
+use Rattle.lane.specs.Pick.{channel_in, drop_from, instruction_for, step_for, pick_in}
 use Rattle.register_steps.specs.declared.Did.{Did}
-use Rattle.register_steps.specs.declared.Did.TheVariants.{On, To, Wait, Stop, Fault}
-use Rattle.lane_parts.specs.Parts.{condition_of, lane_with, ThirtyTwo}
+use Rattle.register_steps.specs.declared.Did.TheVariants.{On, To, WaitEmpty, WaitFull, Stop, Fault}
+use Rattle.lane.specs.Calls.{Told, moved, waiting_empty, waiting_full, answer_to}
 
 -- process p, at this position and in this condition, has moved once more
 abbrev pub stand : ℕ → ℕ → Condition → Lane → Lane
@@ -34,21 +34,24 @@ ended p condition w =
 unfoldable pub finish : Did → ℕ → World → World
 finish On p w = world (stand p ((standing_of w.lane p).position + 1) (standing_of w.lane p).condition w.lane) w.cells
 finish (To c) p w = world (stand p c (standing_of w.lane p).condition w.lane) w.cells
-finish Wait p w = w
+finish WaitEmpty p w = w
+finish WaitFull p w = w
 finish Stop p w = ended p Stopped w
 finish Fault p w = ended p Faulted w
 
-abbrev pub moved_by : Did → Bool
-moved_by On = true
-moved_by (To c) = true
-moved_by Wait = false
-moved_by Stop = true
-moved_by Fault = true
+-- what the pick answers, at channel c
+abbrev pub says : Did → ℕ → Told
+says On c = moved
+says (To k) c = moved
+says WaitEmpty c = waiting_empty c
+says WaitFull c = waiting_full c
+says Stop c = moved
+says Fault c = moved
 
 -- ---- an instruction
 -- the lane l with these registers and channels
 abbrev pub with_state : List ℤ → List Channel → Lane → Lane
-with_state file hs l = lane_with l.network l.accepted file l.processes hs
+with_state file hs l = record { network = l.network; registers = file; processes = l.processes; channels = hs; accepted = l.accepted }
 
 -- process p is live in l and stands at instruction i
 pub record At (l : Lane) (p : ℕ) (i : Instruction) : Type 0 where
@@ -57,32 +60,19 @@ pub record At (l : Lane) (p : ℕ) (i : Instruction) : Type 0 where
   pub instruction : instruction_for p l ≡ i
   pub live : (standing_of l p).condition ≡ Live
 
--- with what is left to do, w' is what the pick of p makes of w
+-- with what is left to do, w' is what the pick of p makes of w, and r what it answers; the positions are left to do
 pub record Turned (r : Did) (p : ℕ) (w w' : World) : Type 0 where
   pub leaves : finish r p w' ≡ pick_in p w
-  pub moved : has_moved (step_for p w).outcome ≡ moved_by r
-
--- instruction i on these registers from a base on, these channels and these cells: it did r, and left those
-abbrev pub Means : (Lane → Type 0) → Instruction → ℕ → List ℤ → List Channel → List ℤ → Did → List ℤ → List Channel → List ℤ → Type 0
-Means P i base file hs cells r file' hs' cells' =
-    (l : Lane) (p : ℕ) → P l → base ≡ 8 * p → At (with_state file hs l) p i
-    → Turned r p (world (with_state file hs l) cells) (world (with_state file' hs' l) cells')
-
--- the conditions are those of the processes, and these the receivers of the channels: who has ended
-pub record Gone (receiver conditions : List ℕ) (l : Lane) : Type 0 where
-  pub ends : l.network.receiver ≡ receiver
-  pub ended : (e : ℕ) → ended_at l e ≡ is_ended (condition_of (get_or conditions e 0))
+  pub network : w'.lane.network ≡ w.lane.network
+  pub stays : w'.lane.processes ≡ w.lane.processes
+  pub told : answer_to (step_for p w).outcome (channel_in (instruction_for p w.lane)) ≡ says r (channel_in (instruction_for p w.lane))
 
 -- what the caller of an instruction has shown: it passes the file's rules for some process (with so many instructions, at these ends of channel
--- b), its channel is that of a sound lane, the registers lie in the file, the cells are there
-pub record Ready (i : Instruction) (base : ℕ) (conditions capacity oldest held peak : List ℕ) (closed : List Bool) (cells : List ℤ) : Type 0 where
+-- b), and its channel is that of a sound lane
+pub record Ready (i : Instruction) (l : Lane) : Type 0 where
   pub count : ℕ
   pub receives : Bool
   pub sends : Bool
   pub right : fields_right count receives sends i ≡ true
-  pub low : base ≤ 120
-  pub place : get_or oldest (channel_in i) 0 < 256
-  pub within : get_or held (channel_in i) 0 ≤ get_or capacity (channel_in i) 0
-  pub all : ThirtyTwo capacity oldest held peak closed
-  pub processes : length conditions ≡ 16
-  pub long : length cells ≡ 8192
+  pub place : (channel_of l (channel_in i)).oldest < 256
+  pub within : (channel_of l (channel_in i)).held ≤ (channel_of l (channel_in i)).capacity

@@ -2,12 +2,14 @@
 -- Assumes nothing.
 use mathlib.Core.Path.{◌≡◌, refl, ap, sym, ◌∙◌}
 use mathlib.Core.List.{List, [], ◌∷◌, ◌++◌, append_assoc}
-use Prim.Native.Nat.{ℕ, ◌+◌, ◌≤◌, ◌<◌}
-use native.Mathlib.Numerals.{add-one}
+use Prim.Native.Nat.{ℕ, ◌+◌, ◌≤◌}
 use native.Mathlib.Omega.{arith}
-use lib.ListN.{length, get_or, take, drop, set, length-append, length-take, length-drop, take-append-drop}
-use lib.Seq.{take_at, drop-append-add, drop-drop, take-suc, set_split, append_snoc, length-take-le}
+use lib.ListN.{length, take, drop, length-append, length-take, length-drop, take-append-drop}
+use lib.Seq.{take_at, drop-append-add, drop-drop}
+use borrow.Rule.Slice.PartMut.{put_mid}
 use Rattle.listing.specs.Text.{Line, line_text, text}
+use Rattle.listing.specs.declared.Listing.{Listing}
+use Rattle.listing.specs.Listing.{HasRoom, Wrote}
 use Rattle.listing.specs.Written.{written}
 
 -- lines one after the other have their texts one after the other
@@ -27,6 +29,11 @@ written_length i t b h =
     let a = length-append (take i b ++ t) (drop (i + length t) b) in
     let d = length-drop (i + length t) b in
     omega (arith, f, a, d, h)
+
+-- the part of a buffer that a text was copied to
+pub copied : (i k : ℕ) (t s b : List ℕ) → k ≡ length t → s ≡ t → put_mid i k b s ≡ written i t b
+unfolding written
+copied i k t s b h e = rw (h, e, drop-drop) (sym (append_assoc (take i b) t (drop (i + length t) b)))
 
 -- nothing written
 pub written_none : (i : ℕ) (b : List ℕ) → written i [] b ≡ b
@@ -53,31 +60,35 @@ written_then i s t b h =
     ∙ ap (λ (x : List ℕ). take i b ++ s ++ t ++ x) rest
     ∙ ap (λ (x : List ℕ). x ++ drop (i + length (s ++ t)) b) (append_assoc (take i b) s t)
 
--- one byte is a store
-written_one : (i x : ℕ) (b : List ℕ) → i < length b → written i (x ∷ []) b ≡ set b i x
-unfolding written
-written_one i x b h = rw (set_split b i x h, append_snoc, add-one)
+-- ---- a line part by part
+-- there is room for the first of two texts
+first : (s t : List ℕ) {a : Listing} → HasRoom (s ++ t) a → HasRoom s a
+first s t r = record { fits = omega (arith, r.fits, length-append s t) }
 
--- one byte more of a text
-pub written_more : (i k : ℕ) (t b l : List ℕ) → i + length t ≤ length b → k < length t → l ≡ written i (take k t) b → set l (i + k) (get_or t k 0) ≡ written i (take (k + 1) t) b
-written_more i k t b l h m e =
-    let w : length (take k t) ≡ k = length-take-le k t (omega arith) in
-    let n = written_length i (take k t) b (omega arith) in
-    let r : i + length (take k t) ≡ i + k = omega arith in
-    ap (λ (x : List ℕ). set x (i + k) (get_or t k 0)) e
-    ∙ sym (written_one (i + k) (get_or t k 0) (written i (take k t) b) (omega arith))
-    ∙ ap (λ (p : ℕ). written p (get_or t k 0 ∷ []) (written i (take k t) b)) (sym r)
-    ∙ written_then i (take k t) (get_or t k 0 ∷ []) b (omega arith)
-    ∙ ap (λ (x : List ℕ). written i x b) (sym (rw add-one (take-suc t k 0 m)))
+-- two texts one after the other
+pub then : {s t : List ℕ} {a b c : Listing} → HasRoom (s ++ t) a → Wrote s a b → Wrote t b c → Wrote (s ++ t) a c
+then {s} {t} {a} {b} {c} r w v =
+    record {
+      at = omega (arith, length-append s t, w.at, v.at);
+      text =
+          v.text ∙ ap (λ (x : List ℕ). written b.at t x) w.text ∙ ap (λ (k : ℕ). written k t (written a.at s a.buffer.now)) w.at
+          ∙ written_then a.at s t a.buffer.now (omega (arith, r.fits, length-append s t));
+      same_length = v.same_length ∙ w.same_length;
+      same_buffer = v.same_buffer ∙ w.same_buffer;
+    }
 
--- ---- a line part by part: a text from place at on has led to place p and list l
-abbrev pub Wrote : ℕ → List ℕ → List ℕ → ℕ → List ℕ → Type 0
-Wrote at t b p l = (p ≡ at + length t) × (l ≡ written at t b)
+-- nothing after a text
+pub wrote_none : (a : Listing) → Wrote [] a a
+wrote_none a = record { at = omega arith; text = sym (written_none a.at a.buffer.now); same_length = refl; same_buffer = refl }
 
--- the next part, written from there on, is one more part of the whole
-pub part : (at : ℕ) (b s t : List ℕ) → at + length (s ++ t) ≤ length b → {p q : ℕ} {l m : List ℕ} → Wrote at s b p l → Wrote p t l q m → Wrote at (s ++ t) b q m
-part at b s t fits {p} {q} {l} {m} w v =
-    let a = length-append s t in (
-      omega (arith, w.0, v.0),
-      v.1 ∙ ap (λ (x : List ℕ). written p t x) w.1 ∙ ap (λ (k : ℕ). written k t (written at s b)) w.0 ∙ written_then at s t b (omega arith),
-    )
+-- the parts of a line, as many as it has
+pub three : {a b c d : Listing} {s t u : List ℕ} → HasRoom (s ++ t ++ u) a → Wrote s a b → Wrote t b c → Wrote u c d → Wrote (s ++ t ++ u) a d
+three r w v u = then r (then (first _ _ r) w v) u
+
+pub five : {a b c d e f : Listing} {s t u x y : List ℕ} → HasRoom (s ++ t ++ u ++ x ++ y) a
+    → Wrote s a b → Wrote t b c → Wrote u c d → Wrote x d e → Wrote y e f → Wrote (s ++ t ++ u ++ x ++ y) a f
+five r w v u x y = then r (then (first _ _ r) (three (first _ _ (first _ _ r)) w v u) x) y
+
+pub seven : {a b c d e f g h : Listing} {s t u x y p q : List ℕ} → HasRoom (s ++ t ++ u ++ x ++ y ++ p ++ q) a
+    → Wrote s a b → Wrote t b c → Wrote u c d → Wrote x d e → Wrote y e f → Wrote p f g → Wrote q g h → Wrote (s ++ t ++ u ++ x ++ y ++ p ++ q) a h
+seven r w v u x y p q = then r (then (first _ _ r) (five (first _ _ (first _ _ r)) w v u x y) p) q

@@ -1,14 +1,13 @@
-// The lines of a bench listing, written into a lent buffer. Each function writes from a place on and answers the place after what it wrote. They are
-// public for the bench, which has shown that there is room.
+// The lines of a bench listing, written into a lent buffer.
 #![tactic(auto)]
 
-ghost use Rattle.std.specs.Prelude.{◌≡◌, ◌+◌, ◌≤◌, ◌<◌, length};
+ghost use Rattle.std.specs.Prelude.{◌+◌, ◌≤◌, ◌<◌, length};
+ghost use Rattle.listing.specs.Listing.{HasRoom, Wrote};
 ghost use Rattle.listing.specs.Number.{number};
 ghost use Rattle.listing.specs.Text.{integer, word, line_text, out, end, grow, proc};
-ghost use Rattle.listing.specs.Written.{written};
 
 // How a process stands at the end: it stopped or faulted, would wait at an empty or a full channel, or would move.
-#[derive(Drop)]
+#[derive(Clone, Copy, PartialEq, Eq)]
 pub enum Status {
     Stop,
     Fault,
@@ -17,100 +16,115 @@ pub enum Status {
     Run,
 }
 
-// A text as it is.
-fn put(listing: &mut [u8], at: usize, text: &[u8]) -> usize
-    requires { at + length text.now ≤ length listing.old }
-    ensures { (result ≡ at + length text.now) × (listing.new ≡ written at text.now listing.old) }
-{
-    let mut i: usize = 0;
-    while i < text.len() {
-        listing[at + i] = text[i];
-        i += 1;
+// The buffer that a listing is written into, and the place after what is written. The fields are public: the bench begins a listing, and reads how long it
+// has become.
+#[derive(Drop)]
+pub struct Listing<'a> {
+    pub buffer: &'a mut [u8],
+    pub at: usize,
+}
+
+impl Listing<'_> {
+    // A text as it is.
+    fn put(&mut self, text: &[u8])
+        requires { HasRoom text.now self.old }
+        ensures { Wrote text.now self.old self.new }
+    {
+        let end = self.at + text.len();
+        self.buffer[self.at..end].copy_from_slice(text);
+        self.at = end;
     }
-    at + text.len()
-}
 
-// A number in decimal.
-fn put_decimal(listing: &mut [u8], at: usize, n: u64) -> usize
-    requires { at + length (number n) ≤ length listing.old }
-    ensures { (result ≡ at + length (number n)) × (listing.new ≡ written at (number n) listing.old) }
-{
-    let mut digits = [0u8; 20];
-    let k = io::decimal(n, &mut digits);
-    put(listing, at, &digits[..k])
-}
-
-// A signed number, with a minus where it is negative.
-fn put_integer(listing: &mut [u8], at: usize, v: i32) -> usize
-    requires { at + length (integer v) ≤ length listing.old }
-    ensures { (result ≡ at + length (integer v)) × (listing.new ≡ written at (integer v) listing.old) }
-{
-    if v < 0 {
-        let past = put(listing, at, b"-");
-        let below = (-1 - v) as u64;
-        return put_decimal(listing, past, below + 1);
+    // A number in decimal.
+    fn put_decimal(&mut self, n: u64)
+        requires { HasRoom (number n) self.old }
+        ensures { Wrote (number n) self.old self.new }
+    {
+        let mut digits = [0u8; 20];
+        let k = io::decimal(n, &mut digits);
+        self.put(&digits[..k]);
     }
-    put_decimal(listing, at, v as u64)
-}
 
-// The word for how a process stands.
-fn put_word(listing: &mut [u8], at: usize, status: Status) -> usize
-    requires { at + length (word status) ≤ length listing.old }
-    ensures { (result ≡ at + length (word status)) × (listing.new ≡ written at (word status) listing.old) }
-{
-    match status {
-        Status::Stop => put(listing, at, b"stop"),
-        Status::Fault => put(listing, at, b"fault"),
-        Status::Empty => put(listing, at, b"empty"),
-        Status::Full => put(listing, at, b"full"),
-        Status::Run => put(listing, at, b"run"),
+    // A signed number, with a minus where it is negative.
+    fn put_integer(&mut self, v: i32)
+        requires { HasRoom (integer v) self.old }
+        ensures { Wrote (integer v) self.old self.new }
+    {
+        let size = u64::from(v.unsigned_abs());
+        if v < 0 {
+            self.put(b"-");
+        }
+        self.put_decimal(size);
     }
-}
 
-// `out channel value`.
-pub fn write_out(listing: &mut [u8], at: usize, c: usize, v: i32) -> usize
-    requires { (c < 32) × (at + length (line_text (out c v)) ≤ length listing.old) }
-    ensures { (result ≡ at + length (line_text (out c v))) × (listing.new ≡ written at (line_text (out c v)) listing.old) }
-{
-    let name = put(listing, at, b"out ");
-    let number = put_decimal(listing, name, c as u64);
-    let space = put(listing, number, b" ");
-    let value = put_integer(listing, space, v);
-    put(listing, value, b"\n")
-}
+    // The word for how a process stands.
+    fn put_word(&mut self, status: Status)
+        requires { HasRoom (word status) self.old }
+        ensures { Wrote (word status) self.old self.new }
+    {
+        match status {
+            Status::Stop => self.put(b"stop"),
+            Status::Fault => self.put(b"fault"),
+            Status::Empty => self.put(b"empty"),
+            Status::Full => self.put(b"full"),
+            Status::Run => self.put(b"run"),
+        }
+    }
 
-// `end channel`.
-pub fn write_end(listing: &mut [u8], at: usize, c: usize) -> usize
-    requires { (c < 32) × (at + length (line_text (end c)) ≤ length listing.old) }
-    ensures { (result ≡ at + length (line_text (end c))) × (listing.new ≡ written at (line_text (end c)) listing.old) }
-{
-    let name = put(listing, at, b"end ");
-    let number = put_decimal(listing, name, c as u64);
-    put(listing, number, b"\n")
-}
+    // `out channel value`.
+    #[tactic(auto, using(crate::proofs::Lines::out_length))]
+    pub fn output(&mut self, c: usize, v: i32)
+        requires channel { c < 32 }
+        requires room { HasRoom (line_text (out c v)) self.old }
+        ensures { Wrote (line_text (out c v)) self.old self.new }
+    {
+        self.put(b"out ");
+        self.put_decimal(c as u64);
+        self.put(b" ");
+        self.put_integer(v);
+        self.put(b"\n");
+    }
 
-// `grow channel capacity`.
-pub fn write_grow(listing: &mut [u8], at: usize, c: usize, capacity: u16) -> usize
-    requires { (c < 32) × (capacity ≤ 256) × (at + length (line_text (grow c capacity)) ≤ length listing.old) }
-    ensures { (result ≡ at + length (line_text (grow c capacity))) × (listing.new ≡ written at (line_text (grow c capacity)) listing.old) }
-{
-    let name = put(listing, at, b"grow ");
-    let number = put_decimal(listing, name, c as u64);
-    let space = put(listing, number, b" ");
-    let room = put_decimal(listing, space, capacity as u64);
-    put(listing, room, b"\n")
-}
+    // `end channel`.
+    #[tactic(auto, using(crate::proofs::Lines::end_length))]
+    pub fn end(&mut self, c: usize)
+        requires channel { c < 32 }
+        requires room { HasRoom (line_text (end c)) self.old }
+        ensures { Wrote (line_text (end c)) self.old self.new }
+    {
+        self.put(b"end ");
+        self.put_decimal(c as u64);
+        self.put(b"\n");
+    }
 
-// `proc number condition moves`.
-pub fn write_proc(listing: &mut [u8], at: usize, p: usize, status: Status, moves: u64) -> usize
-    requires { (p < 16) × (at + length (line_text (proc p status moves)) ≤ length listing.old) }
-    ensures { (result ≡ at + length (line_text (proc p status moves))) × (listing.new ≡ written at (line_text (proc p status moves)) listing.old) }
-{
-    let name = put(listing, at, b"proc ");
-    let number = put_decimal(listing, name, p as u64);
-    let space = put(listing, number, b" ");
-    let condition = put_word(listing, space, status);
-    let gap = put(listing, condition, b" ");
-    let count = put_decimal(listing, gap, moves);
-    put(listing, count, b"\n")
+    // `grow channel capacity`.
+    #[tactic(auto, using(crate::proofs::Lines::grow_length))]
+    pub fn grow(&mut self, c: usize, capacity: u16)
+        requires channel { c < 32 }
+        requires capacity { capacity ≤ 256 }
+        requires room { HasRoom (line_text (grow c capacity)) self.old }
+        ensures { Wrote (line_text (grow c capacity)) self.old self.new }
+    {
+        self.put(b"grow ");
+        self.put_decimal(c as u64);
+        self.put(b" ");
+        self.put_decimal(u64::from(capacity));
+        self.put(b"\n");
+    }
+
+    // `proc number condition moves`.
+    #[tactic(auto, using(crate::proofs::Lines::proc_length))]
+    pub fn proc(&mut self, p: usize, status: Status, moves: u64)
+        requires process { p < 16 }
+        requires room { HasRoom (line_text (proc p status moves)) self.old }
+        ensures { Wrote (line_text (proc p status moves)) self.old self.new }
+    {
+        self.put(b"proc ");
+        self.put_decimal(p as u64);
+        self.put(b" ");
+        self.put_word(status);
+        self.put(b" ");
+        self.put_decimal(moves);
+        self.put(b"\n");
+    }
 }

@@ -7,12 +7,11 @@ use Prim.Native.Nat.{ℕ, zero, suc, ◌+◌, ◌-◌, ◌≤◌}
 use native.Mathlib.Omega.{arith}
 use borrow.Author.Tests.{eq-eqb, ne_eqb}
 use lib.Dec.{eqb}
-use Rattle.base.specs.declared.Verdict.{Verdict}
-use Rattle.base.specs.declared.Verdict.TheVariants.{Good}
-use Rattle.base.specs.Tests.{and_then, need, in_turn, first_bad}
+use Rattle.std.specs.declared.result.Result.TheVariants.{Ok}
+use Rattle.base.specs.Tests.{Verdict, and_then, need, in_turn, first_bad}
 
 -- the last place, and one before it
-at_last : (a b : Bool) (s : ℕ) → and_then (need (a && b) s) Good ≡ and_then (and_then (need a s) Good) (need b s)
+at_last : (a b : Bool) (s : ℕ) → and_then (need (a && b) s) (Ok tt) ≡ and_then (and_then (need a s) (Ok tt)) (need b s)
 at_last true true s = refl
 at_last true false s = refl
 at_last false b s = refl

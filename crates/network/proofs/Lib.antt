@@ -1,5 +1,5 @@
 pub mod Last
 pub mod Slot
-pub mod Parts
+pub mod InParts
 pub mod Passed
 pub mod Unused

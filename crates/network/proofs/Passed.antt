@@ -5,7 +5,7 @@ use mathlib.Core.Bool.{true, false}
 use Prim.Native.Nat.{◌≤◌}
 use borrow.Author.Tests.{leb-true, le-leb}
 use native.Mathlib.Omega.{arith}
-use Rattle.base.specs.declared.Verdict.TheVariants.{Good}
+use Rattle.std.specs.declared.result.Result.TheVariants.{Ok}
 use Rattle.base.specs.Tests.{is_good}
 use Rattle.network.specs.declared.Network.{Network}
 use Rattle.network.specs.Rules.{slots, total, blocks_for, records, unused_slots, unused_records, unused_code, unused_zero, instructions, passes}
@@ -17,20 +17,20 @@ pub record Passed (n : Network) : Type 0 where
   pub processes_high : n.processes ≤ 16
   pub channels_low : 1 ≤ n.channels
   pub channels_high : n.channels ≤ 32
-  pub slots_good : slots n ≡ Good
+  pub slots_good : slots n ≡ Ok tt
   pub total_low : 1 ≤ total n
   pub total_high : total n ≤ 1016
-  pub records_good : records n ≡ Good
-  pub unused_slots_good : unused_slots n ≡ Good
-  pub unused_records_good : unused_records n ≡ Good
-  pub unused_code_good : unused_code n ≡ Good
-  pub instructions_good : instructions n ≡ Good
+  pub records_good : records n ≡ Ok tt
+  pub unused_slots_good : unused_slots n ≡ Ok tt
+  pub unused_records_good : unused_records n ≡ Ok tt
+  pub unused_code_good : unused_code n ≡ Ok tt
+  pub instructions_good : instructions n ≡ Ok tt
 
 -- a process has an instruction, so the total is at least 1
-pub total_positive : (n : Network) → 1 ≤ n.processes → slots n ≡ Good → 1 ≤ total n
+pub total_positive : (n : Network) → 1 ≤ n.processes → slots n ≡ Ok tt → 1 ≤ total n
 total_positive n h g = omega (arith, right_at n g 0 h, ends_within n g 0 h)
 
-pub unused_good : (n : Network) → unused_zero n ≡ true → (unused_slots n ≡ Good) × (unused_records n ≡ Good) × (unused_code n ≡ Good)
+pub unused_good : (n : Network) → unused_zero n ≡ true → (unused_slots n ≡ Ok tt) × (unused_records n ≡ Ok tt) × (unused_code n ≡ Ok tt)
 unused_good n e =
     let k = both_true _ (is_good (unused_code n)) e in
     let u = both_true (is_good (unused_slots n)) _ k.0 in

@@ -5,7 +5,7 @@ use mathlib.Core.Bool.{true}
 use Prim.Native.Nat.{ℕ, zero, suc, ◌+◌, ◌-◌, ◌≤◌, ◌<◌}
 use borrow.Author.Tests.{eqb-true, ne_eqb}
 use native.Mathlib.Omega.{arith}
-use Rattle.base.specs.declared.Verdict.TheVariants.{Good}
+use Rattle.std.specs.declared.result.Result.TheVariants.{Ok}
 use Rattle.base.specs.Tests.{need}
 use Rattle.base.proofs.Tests.{each, need_true}
 use Rattle.network.specs.declared.Network.{Network}
@@ -30,7 +30,7 @@ right n p e =
     let d = between_true 1 (count_of n p) 256 b.1 in
     record { starts = eqb-true _ _ b.0; low = d.0; high = d.1 }
 
-module _ (n : Network) (g : slots n ≡ Good) where
+module _ (n : Network) (g : slots n ≡ Ok tt) where
   pub right_at : (p : ℕ) → p < n.processes → Right n p
   unfolding slots
   right_at p h = right n p (need_true (slot_right n p) p (each (λ k. need (slot_right n k) k) n.processes 0 g p (omega arith) (omega arith)))

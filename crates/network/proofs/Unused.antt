@@ -9,7 +9,7 @@ use native.Mathlib.Omega.{arith}
 use borrow.Author.Tests.{eq-eqb}
 use lib.Dec.{leb}
 use lib.ListN.{length, get_or, replicate}
-use Rattle.base.specs.declared.Verdict.TheVariants.{Good}
+use Rattle.std.specs.declared.result.Result.TheVariants.{Ok}
 use Rattle.base.specs.Tests.{need, is_good, is_zero}
 use Rattle.base.proofs.Tests.{all, true_need}
 use Rattle.network.specs.declared.Network.{Network}
@@ -22,7 +22,7 @@ zero_past [] (suc k) (suc i) h = zero_past [] k i (omega arith)
 zero_past (x ∷ xs) k zero h = absurd (omega arith)
 zero_past (x ∷ xs) k (suc i) h = zero_past xs k i (omega arith)
 
-unused_zero_lem : (n : Network) (program : List ℕ) (k : ℕ) → n.code ≡ program ++ replicate k 0 → length program ≤ 4 * total n → unused_code n ≡ Good
+unused_zero_lem : (n : Network) (program : List ℕ) (k : ℕ) → n.code ≡ program ++ replicate k 0 → length program ≤ 4 * total n → unused_code n ≡ Ok tt
 unfolding unused_code
 unused_zero_lem n program k e h =
     all (λ i. need (is_zero n.code i) i) (4064 - 4 * total n) (4 * total n)

@@ -1,8 +1,7 @@
 -- Document 01, "The lane file": when a network passes the file's rules. The reader's refusals 3 to 7 and the test of a network cite these.
 -- Assumes nothing.
 use Rattle.std.specs.Prelude.{Bool, cond, not, ◌&&◌, ◌||◌, ℕ, ◌+◌, ◌-◌, ◌*◌, ◌/◌, eqb, ltb, leb, get_or}
-use Rattle.base.specs.declared.Verdict.{Verdict}
-use Rattle.base.specs.Tests.{first_bad, in_turn, is_good, between, is_zero}
+use Rattle.base.specs.Tests.{Verdict, first_bad, in_turn, is_good, between, is_zero}
 use Rattle.network.specs.declared.Network.{Network}
 use Rattle.network.specs.declared.Instruction.{Instruction}
 use Rattle.network.specs.Code.{instruction_at, stands_right}

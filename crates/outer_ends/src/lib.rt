@@ -11,9 +11,7 @@ pub fn outer_after(ends: &[u8; 32], channels: usize, after: &mut [u8; 32]) -> us
     ensures { Outer ends.now channels result after.new × (length after.new ≡ 32) × ((d : ℕ) → channels ≤ d → get_or after.new d 0 ≡ get_or after.old d 0) }
 {
     let mut next = channels;
-    let mut c = channels;
-    while c > 0 {
-        c -= 1;
+    for c in (0..channels).rev() {
         after[c] = next as u8;
         if ends[c] == 255 {
             next = c;

@@ -5,7 +5,6 @@
 #![tactic(auto)]
 
 use lane::Lane;
-use lane_file::Answer;
 use network::Network;
 use std::env::Env;
 use std::rt::Files;
@@ -14,53 +13,29 @@ const OUT: i32 = 1;
 
 // Processes 0, 1, .. in turn.
 fn round_robin(processes: usize) -> [u8; 4096] {
-    let mut picks = [0u8; 4096];
-    let mut k: usize = 0;
-    let mut p: u8 = 0;
-    while k < 4096 {
-        if processes <= base::wide(p) {
-            p = 0;
-        }
-        picks[k] = p;
-        if p < 255 {
-            p += 1;
-        }
-        k += 1;
+    let mut picks = [0; 4096];
+    for (k, pick) in picks.iter_mut().enumerate() {
+        *pick = u8::try_from(k % processes.max(1)).unwrap_or(0);
     }
     picks
 }
 
-// The picks, as a run or as a drive, which picks in turn by itself.
-fn lap(lane: Lane, cells: &mut [i32], picks: &[u8], drives: bool) -> Lane {
-    if drives {
-        let driven = drives::drive(lane, cells, 4096);
-        return driven.lane;
-    }
-    let ran = runs::run(lane, cells, picks);
-    ran.lane
+// The picks as a drive, which picks in turn by itself.
+fn drive(lane: Lane, cells: &mut [i32], _: &[u8]) -> Lane {
+    drives::drive(lane, cells, 4096).lane
+}
+
+fn run(lane: Lane, cells: &mut [i32], picks: &[u8]) -> Lane {
+    runs::run(lane, cells, picks).lane
 }
 
 // How many picks of a lane moved.
-fn moves(lane: Lane) -> u64 {
+fn moves(lane: &Lane) -> u64 {
     let mut sum: u64 = 0;
-    let mut p = 0;
-    while p < 16 {
-        let standing = lane.processes[p];
-        sum = std::num::wrapping_add_u64(sum, standing.moves);
-        p += 1;
+    for p in 0..16 {
+        sum = sum.wrapping_add(lane.processes[p].moves);
     }
     sum
-}
-
-// 407 times 4,096 picks.
-fn laps(lane: Lane, cells: &mut [i32], picks: &[u8], drives: bool) -> u64 {
-    let mut l = lane;
-    let mut k: usize = 0;
-    while k < 407 {
-        l = lap(l, cells, picks, drives);
-        k += 1;
-    }
-    moves(l)
 }
 
 fn report(name: &[u8], moved: u64) {
@@ -70,48 +45,47 @@ fn report(name: &[u8], moved: u64) {
     io::write_all(OUT, b" moves\n");
 }
 
-fn pace(name: &[u8], file: &[u8], drives: bool) {
-    let reading = lane_reader::read(file);
-    let answer = reading.answer;
-    if let Answer::Accepted = answer {
-        let net = reading.network;
-        let mut cells = [0i32; 8192];
-        let moved = laps(
-            lane_sound::fresh(net),
-            &mut cells,
-            &round_robin(net.processes),
-            drives,
-        );
-        report(name, moved);
+// 407 times 4,096 picks, as the lap makes them.
+fn pace<F: Fn(Lane, &mut [i32], &[u8]) -> Lane>(name: &[u8], file: &[u8], lap: F)
+    requires { F.IsAlwaysCallable lap }
+{
+    if let Ok(net) = lane_reader::read(file) {
+        let mut cells = [0; 8192];
+        let picks = round_robin(net.processes);
+        let mut lane = lane_sound::fresh(net);
+        for _ in 0..407 {
+            lane = lap(lane, &mut cells, &picks);
+        }
+        report(name, moves(&lane));
     }
 }
 
 // The three lanes, one after the other.
-fn paces(rt: &impl Files, drives: bool) {
-    let mut file = [0u8; 1024];
+fn paces<F: Fn(Lane, &mut [i32], &[u8]) -> Lane>(rt: &impl Files, lap: F)
+    requires { F.IsAlwaysCallable lap }
+{
+    let mut file = [0; 1024];
     files::load(rt, b"ring.bin", &mut file);
-    pace(b"ring", &file, drives);
+    pace(b"ring", &file, &lap);
     files::load(rt, b"pipeline.bin", &mut file);
-    pace(b"pipeline", &file, drives);
+    pace(b"pipeline", &file, &lap);
     files::load(rt, b"arithmetic.bin", &mut file);
-    pace(b"arithmetic", &file, drives);
+    pace(b"arithmetic", &file, &lap);
 }
 
 // 255 sends and a jump back in process 0, 255 receives and a jump back in process 1: a run of 4,096 picks passes on 8 times 255 messages.
 fn messages(rt: &impl Files) {
-    let mut file = [0u8; 3072];
+    let mut file = [0; 3072];
     files::load(rt, b"message.bin", &mut file);
-    pace(b"message", &file, false);
+    pace(b"message", &file, run);
 }
 
 // 407 drives of 4,096 picks, each from the fresh lane.
 fn fresh_laps(net: Network, cells: &mut [i32]) -> u64 {
     let mut sum: u64 = 0;
-    let mut k: usize = 0;
-    while k < 407 {
+    for _ in 0..407 {
         let driven = drives::drive(lane_sound::fresh(net), cells, 4096);
-        sum = std::num::wrapping_add_u64(sum, moves(driven.lane));
-        k += 1;
+        sum = sum.wrapping_add(moves(&driven.lane));
     }
     sum
 }
@@ -119,13 +93,11 @@ fn fresh_laps(net: Network, cells: &mut [i32]) -> u64 {
 // Process 0 is a clock, which jumps to itself for ever. 1 and 2 each send 100 messages to the other, then receive 100 and jump back, over channels of 1 at
 // first: after each of rounds 1 to 197 of a drive they wait for each other in a ring, and one of the two channels grows, while the clock moves.
 fn stuck(rt: &impl Files) {
-    let mut file = [0u8; 2560];
+    let mut file = [0; 2560];
     files::load(rt, b"stuck.bin", &mut file);
-    let reading = lane_reader::read(&file);
-    let answer = reading.answer;
-    if let Answer::Accepted = answer {
-        let mut cells = [0i32; 8192];
-        report(b"stuck", fresh_laps(reading.network, &mut cells));
+    if let Ok(net) = lane_reader::read(&file) {
+        let mut cells = [0; 8192];
+        report(b"stuck", fresh_laps(net, &mut cells));
     }
 }
 
@@ -133,16 +105,16 @@ fn main(rt: HostRuntime) {
     let mut word = [0u8; 8];
     let _ = rt.arg(1, &mut word);
     let what = word[0];
-    if what == 0 || what == 114 {
-        paces(&rt, false);
+    if what == 0 || what == b'r' {
+        paces(&rt, run);
     }
-    if what == 0 || what == 100 {
-        paces(&rt, true);
+    if what == 0 || what == b'd' {
+        paces(&rt, drive);
     }
-    if what == 0 || what == 109 {
+    if what == 0 || what == b'm' {
         messages(&rt);
     }
-    if what == 0 || what == 115 {
+    if what == 0 || what == b's' {
         stuck(&rt);
     }
 }

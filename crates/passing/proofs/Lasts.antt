@@ -5,12 +5,15 @@ use mathlib.Core.Path.{◌≡◌, ap, ap₂, ◌∙◌}
 use Prim.Native.Nat.{ℕ, ◌+◌, ◌*◌, ◌/◌, ◌%◌, ◌<◌}
 use native.Mathlib.Decide.{ℕ_discrete, dec_lt}
 use native.Mathlib.Omega.{arith}
-use borrow.Author.Tests.{ne_eqb}
+use borrow.Author.Tests.{ne_eqb, leb-true, le-leb}
 use lib.Bits.{bit_and, and_block, and_mask}
+use lib.Dec.{leb}
 use lib.ListN.{get_or, get_or-eq_default}
 use Rattle.base.specs.Lists.{table}
+use Rattle.base.proofs.Conjunction.{iff}
 use Rattle.base.proofs.Lists.{table_at, length_values}
 use Rattle.network.specs.Code.{may_be_last}
+use Rattle.network.specs.Rules.{blocks_for}
 use Rattle.flags.specs.Clean.{clean}
 use Rattle.instruction_sums.specs.Sums.{Small}
 
@@ -36,3 +39,7 @@ table_small f s k = go (dec_lt k 256)
     go : Dec (k < 256) → get_or (table 256 f) k 0 < 0x7000000000000000
     go (yes h) = rw (table_at f 256 k 0 h) (s k h)
     go (no h) = rw (get_or-eq_default (table 256 f) 0 {n = k} (omega (arith, length_values f 256 0))) (omega arith)
+
+-- ---- the code blocks
+pub blocks_fit : (total : ℕ) → leb (blocks_for total) 8 ≡ leb total 1016
+blocks_fit total = iff _ _ (λ e. le-leb total 1016 (omega (arith, leb-true))) (λ e. le-leb (blocks_for total) 8 (omega (arith, leb-true)))

@@ -2,98 +2,83 @@
 // which names the place of what is wrong, has the tests in `network`.
 #![tactic(auto)]
 
-ghost use Rattle.std.specs.Prelude.{◌≡◌, ℕ, ◌≤◌, ◌<◌, length, get_or};
+ghost use Rattle.std.specs.Prelude.{◌≡◌, ◌&&◌, ◌≤◌};
 ghost use Rattle.base.specs.Tests.{is_good};
-ghost use Rattle.network.specs.Rules.{instructions, passes};
+ghost use Rattle.network.specs.Rules.{processes_right, channels_right, total, unused_zero, instructions, passes};
 ghost use Rattle.passing.specs.Placed.{Placed};
 
-use base::Verdict;
+use instruction_sums::Sums;
 use network::Network;
 use slots_and_records::{all_zero, records_right, slots_right, unused_records, unused_slots};
 
-// The byte at a place of a code. Who has the code by a reference to an array learns from this that all of it are bytes, below 256.
-fn opcode_at(code: &[u8], at: usize) -> u8
-    requires { at < length code.now }
-    ensures { (result ≡ get_or code.now at 0) × ((k : ℕ) → get_or code.now k 0 < 256) }
-{
-    code[at]
-}
-
 // Whether all instructions are right, and each process's last one is a stop or a jump. The slots have been tested.
-fn code_right<'a>(
-    code: &'a [u8; 4064],
-    first: &'a [u16; 16],
-    count: &'a [u16; 16],
-    processes: usize,
-    receiver: &'a [u8; 32],
-    sender: &'a [u8; 32],
-    channels: usize,
-) -> bool
-    requires { (processes ≤ 16) × (channels ≤ 32) × Placed first.now count.now processes }
-    ensures { (net : Network) → net.code ≡ code.now → net.first ≡ first.now → net.count ≡ count.now → net.processes ≡ processes → net.receiver ≡ receiver.now → net.sender ≡ sender.now → net.channels ≡ channels → result ≡ is_good (instructions net) }
+fn code_right(net: &Network) -> bool
+    requires { (net.now.processes ≤ 16) × (net.now.channels ≤ 32) × Placed net.now.first net.now.count net.now.processes }
+    ensures { result ≡ is_good (instructions net.now) }
 {
     let mut ends = [0u64; 256];
     instruction_words::long_words(&mut ends);
     instruction_words::plain_words(&mut ends);
-    instruction_words::channel_words(&mut ends, receiver, sender, channels);
+    instruction_words::channel_words(&mut ends, &net.receiver, &net.sender, net.channels);
     let mut opcodes = [0x4040404040404040u64; 256];
     instruction_words::opcode_words(&mut opcodes);
     let mut all: u64 = 0;
     let mut last: u8 = 0;
     let mut before: u64 = 256;
-    let mut p: usize = 0;
-    while p < processes {
-        let start = first[p] as usize;
-        let n = count[p] as usize;
+    for p in 0..net.processes {
+        let start = usize::from(net.first[p]);
+        let n = usize::from(net.count[p]);
         instruction_words::count_words(&mut opcodes, p, before, n as u64);
-        all = all | instruction_sums::run(code, &opcodes, &ends, start, n);
+        let sums = Sums {
+            code: &net.code,
+            opcodes: &opcodes,
+            channels: &ends,
+        };
+        all |= sums.run(start, n);
         let end = start + n;
-        last = last | opcode_at(code, 4 * end - 4);
+        last |= net.code[4 * end - 4];
         instruction_words::next_words(&mut opcodes, p, n as u64);
         before = n as u64;
-        p += 1;
     }
     all & 0x482040410080F820 == 0 && last & 247 == 0
 }
 
-// Whether a network passes the file's rules. The numbers of processes and channels and the slots are tested first, so that each place read is there.
-pub fn passes(net: Network) -> bool
-    ensures { result ≡ passes net }
+// The numbers of processes and channels are right.
+fn sizes_right(net: &Network) -> bool
+    ensures { result ≡ (processes_right net.now.processes && channels_right net.now.channels) }
 {
-    let p = net.processes;
-    if p < 1 || 16 < p {
+    1 <= net.processes && net.processes <= 16 && 1 <= net.channels && net.channels <= 32
+}
+
+// Slots, records and code beyond those that are used are zero. The slots have been tested.
+#[tactic(auto, unfolding(network::specs::Rules::unused_code))]
+fn unused_right(net: &Network, used: usize) -> bool
+    requires { (net.now.processes ≤ 16) × (net.now.channels ≤ 32) × (used ≡ total net.now) × (used ≤ 1016) }
+    ensures { result ≡ unused_zero net.now }
+{
+    unused_slots(net).is_ok() && unused_records(net).is_ok() && all_zero(&net.code, 4 * used)
+}
+
+// Whether a network passes the file's rules. The numbers of processes and channels and the slots are tested first, so that each place read is there.
+#[tactic(auto, using(base::proofs::Conjunction::in_all, crate::proofs::Lasts::blocks_fit), unfolding(network::specs::Rules::passes))]
+pub fn passes(net: &Network) -> bool
+    ensures { result ≡ passes net.now }
+{
+    if !sizes_right(net) {
         return false;
     }
-    let c = net.channels;
-    if c < 1 || 32 < c {
+    if !slots_right(net) {
         return false;
     }
-    if !slots_right(&net.first, &net.count, p) {
-        return false;
-    }
-    let total = network::total(&net.first, &net.count, p);
+    let total = network::total(net);
     if 1016 < total {
         return false;
     }
-    if !records_right(&net.sender, &net.receiver, &net.capacity, c, p as u8) {
+    if !records_right(net) {
         return false;
     }
-    let Verdict::Good = unused_slots(&net.first, &net.count, p) else {
-        return false;
-    };
-    let Verdict::Good = unused_records(&net.sender, &net.receiver, &net.capacity, c) else {
-        return false;
-    };
-    if !all_zero(&net.code, 4 * total) {
+    if !unused_right(net, total) {
         return false;
     }
-    code_right(
-        &net.code,
-        &net.first,
-        &net.count,
-        p,
-        &net.receiver,
-        &net.sender,
-        c,
-    )
+    code_right(net)
 }

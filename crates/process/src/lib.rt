@@ -5,7 +5,7 @@ ghost use Rattle.std.specs.Prelude.{◌≡◌, ◌<◌};
 ghost use Rattle.process.specs.Channels.{put_one, get_one, close_one, empty_one, enlarge_one};
 ghost use Rattle.process.specs.Want.{counted};
 
-#[derive(Clone, Copy)]
+#[derive(Clone, Copy, PartialEq, Eq)]
 pub enum Condition {
     Live,
     Stopped,
@@ -14,7 +14,7 @@ pub enum Condition {
 
 // A channel: its capacity, the place of the oldest message (0 to 255), the number held, the most held since the start (its high-water mark), closed or
 // open.
-#[derive(Clone, Copy)]
+#[derive(Clone, Copy, PartialEq, Eq)]
 pub struct Channel {
     pub capacity: u16,
     pub oldest: u16,

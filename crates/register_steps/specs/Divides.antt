@@ -1,4 +1,4 @@
--- What a quotient or a remainder leaves: a register, or a fault where the divisor is zero.
+-- What an operation leaves: its value in a register, or a fault, as where a divisor is zero.
 -- Assumes nothing.
 use Rattle.std.specs.Prelude.{List, ℕ, set, ℤ}
 use Rattle.arithmetic.specs.Quotient.{Quotient, value, faults}

@@ -1,34 +1,32 @@
-// The instructions that touch registers alone, each one function on the lent register file, which stores what it changes and answers what is left to do.
+// The instructions that touch registers alone, on the lent register file: what is stored, and what is left to do.
 // They are public for `lent_steps`, which has shown what they require: the registers lie in the file.
 #![tactic(auto)]
 
-ghost use Rattle.std.specs.Prelude.{◌≡◌, cond, ◌+◌, ◌≤◌, ◌<◌, pos, get_or, set};
-ghost use Rattle.arithmetic.specs.Wrap.{sum_of, difference_of, product_of};
-ghost use Rattle.arithmetic.specs.Quotient.{told, quotient_of, remainder_of};
-ghost use Rattle.process.specs.Want.{signed16, is_null, is_negative};
+ghost use Rattle.std.specs.Prelude.{◌≡◌, Option, cond, ◌+◌, ◌≤◌, ◌<◌, ℤ, pos, get_or, set};
+ghost use Rattle.arithmetic.specs.Quotient.{told};
+ghost use Rattle.process.specs.Want.{signed16};
 ghost use Rattle.register_steps.specs.Divides.{did_by, file_by};
 
-use arithmetic::Divided;
 use network::Instruction;
 
-// What an instruction did, and so what is left to do: on to the next one; to a target; nothing, it waits; an end, stopped or faulted.
-#[derive(Drop)]
+// What an instruction did, and so what is left to do: on to the next one; to a target; nothing, it waits, for a message or for room; an end, stopped or
+// faulted.
+#[derive(Clone, Copy, PartialEq, Eq)]
 pub enum Did {
     On,
     To(u8),
-    Wait,
+    WaitEmpty,
+    WaitFull,
     Stop,
     Fault,
 }
 
-// ---- registers
 // Register r of the process whose registers lie from a base on.
 pub fn register(file: &[i32; 128], base: usize, r: u8) -> i32
     requires { (base ≤ 120) × (r < 8) }
     ensures { result ≡ get_or file.now (base + r) (pos 0) }
 {
-    let k = base + (r as usize);
-    file[k]
+    file[base + r as usize]
 }
 
 // Register r becomes v.
@@ -36,120 +34,67 @@ pub fn assign(file: &mut [i32; 128], base: usize, r: u8, v: i32)
     requires { (base ≤ 120) × (r < 8) }
     ensures { file.new ≡ set file.old (base + r) v }
 {
-    let k = base + (r as usize);
-    file[k] = v;
+    file[base + r as usize] = v;
 }
 
 // The signed 16-bit number in b, c.
-fn signed16(b: u8, c: u8) -> i32
+pub fn signed16(b: u8, c: u8) -> i32
     ensures { result ≡ signed16 b c }
 {
-    let n = 256 * (b as u32) + (c as u32);
-    if n < 32768 {
-        n as i32
-    } else {
-        (n as i32) - 65536
-    }
+    i32::from(i16::from_be_bytes([b, c]))
 }
 
-// ---- the opcodes 1 to 7, 9 and 10
-pub fn set(i: Instruction, file: &mut [i32; 128], base: usize) -> Did
-    requires { (base ≤ 120) × (i.a < 8) }
-    ensures { (result ≡ Did.On) × (file.new ≡ set file.old (base + i.a) (signed16 i.b i.c)) }
+// Register a becomes what the operation makes of registers b and c. Where it makes nothing, the instruction faults and the registers stay.
+pub fn operate<F: Fn(i32, i32) -> Option<i32>>(
+    i: Instruction,
+    file: &mut [i32; 128],
+    base: usize,
+    operation: F,
+) -> Did
+    requires in_file { (base ≤ 120) × (i.a < 8) × (i.b < 8) × (i.c < 8) }
+    requires callable { F.IsAlwaysCallable operation }
+    ensures { (made : Option ℤ) × F.post operation (get_or file.old (base + i.b) (pos 0)) (get_or file.old (base + i.c) (pos 0)) made × (result ≡ did_by (told made)) × (file.new ≡ file_by (told made) (base + i.a) file.old) }
 {
-    assign(file, base, i.a, signed16(i.b, i.c));
-    Did::On
-}
-
-pub fn copy(i: Instruction, file: &mut [i32; 128], base: usize) -> Did
-    requires { (base ≤ 120) × (i.a < 8) × (i.b < 8) }
-    ensures { (result ≡ Did.On) × (file.new ≡ set file.old (base + i.a) (get_or file.old (base + i.b) (pos 0))) }
-{
-    let x = register(file, base, i.b);
-    assign(file, base, i.a, x);
-    Did::On
-}
-
-pub fn add(i: Instruction, file: &mut [i32; 128], base: usize) -> Did
-    requires { (base ≤ 120) × (i.a < 8) × (i.b < 8) × (i.c < 8) }
-    ensures { (result ≡ Did.On) × (file.new ≡ set file.old (base + i.a) (sum_of (get_or file.old (base + i.b) (pos 0)) (get_or file.old (base + i.c) (pos 0)))) }
-{
-    let x = register(file, base, i.b);
-    let y = register(file, base, i.c);
-    assign(file, base, i.a, arithmetic::sum(x, y));
-    Did::On
-}
-
-pub fn subtract(i: Instruction, file: &mut [i32; 128], base: usize) -> Did
-    requires { (base ≤ 120) × (i.a < 8) × (i.b < 8) × (i.c < 8) }
-    ensures { (result ≡ Did.On) × (file.new ≡ set file.old (base + i.a) (difference_of (get_or file.old (base + i.b) (pos 0)) (get_or file.old (base + i.c) (pos 0)))) }
-{
-    let x = register(file, base, i.b);
-    let y = register(file, base, i.c);
-    assign(file, base, i.a, arithmetic::difference(x, y));
-    Did::On
-}
-
-pub fn multiply(i: Instruction, file: &mut [i32; 128], base: usize) -> Did
-    requires { (base ≤ 120) × (i.a < 8) × (i.b < 8) × (i.c < 8) }
-    ensures { (result ≡ Did.On) × (file.new ≡ set file.old (base + i.a) (product_of (get_or file.old (base + i.b) (pos 0)) (get_or file.old (base + i.c) (pos 0)))) }
-{
-    let x = register(file, base, i.b);
-    let y = register(file, base, i.c);
-    assign(file, base, i.a, arithmetic::product(x, y));
-    Did::On
-}
-
-// A quotient or a remainder into register a; a zero divisor faults.
-fn put_divided(d: Divided, a: u8, file: &mut [i32; 128], base: usize) -> Did
-    requires { (base ≤ 120) × (a < 8) }
-    ensures { (result ≡ did_by (told d)) × (file.new ≡ file_by (told d) (base + a) file.old) }
-{
-    match d {
-        Divided::By(v) => {
-            assign(file, base, a, v);
+    match operation(register(file, base, i.b), register(file, base, i.c)) {
+        Some(v) => {
+            assign(file, base, i.a, v);
             Did::On
         }
-        Divided::Zero => Did::Fault,
+        None => Did::Fault,
     }
 }
 
-pub fn divide(i: Instruction, file: &mut [i32; 128], base: usize) -> Did
-    requires { (base ≤ 120) × (i.a < 8) × (i.b < 8) × (i.c < 8) }
-    ensures { (result ≡ did_by (quotient_of (get_or file.old (base + i.b) (pos 0)) (get_or file.old (base + i.c) (pos 0)))) × (file.new ≡ file_by (quotient_of (get_or file.old (base + i.b) (pos 0)) (get_or file.old (base + i.c) (pos 0))) (base + i.a) file.old) }
+// To the target if the branch is taken, else on.
+pub fn branch(taken: bool, target: u8) -> Did
+    ensures { result ≡ cond taken (Did.To target) Did.On }
 {
-    let x = register(file, base, i.b);
-    let y = register(file, base, i.c);
-    put_divided(arithmetic::quotient(x, y), i.a, file, base)
+    if taken { Did::To(target) } else { Did::On }
 }
 
-pub fn remainder(i: Instruction, file: &mut [i32; 128], base: usize) -> Did
-    requires { (base ≤ 120) × (i.a < 8) × (i.b < 8) × (i.c < 8) }
-    ensures { (result ≡ did_by (remainder_of (get_or file.old (base + i.b) (pos 0)) (get_or file.old (base + i.c) (pos 0)))) × (file.new ≡ file_by (remainder_of (get_or file.old (base + i.b) (pos 0)) (get_or file.old (base + i.c) (pos 0))) (base + i.a) file.old) }
-{
-    let x = register(file, base, i.b);
-    let y = register(file, base, i.c);
-    put_divided(arithmetic::remainder(x, y), i.a, file, base)
-}
+#[cfg(test)]
+mod tests {
+    use super::*;
+    use std::test::Fail;
 
-pub fn jump_zero(i: Instruction, file: &[i32; 128], base: usize) -> Did
-    requires { (base ≤ 120) × (i.a < 8) }
-    ensures { result ≡ cond (is_null (get_or file.now (base + i.a) (pos 0))) (Did.To i.c) Did.On }
-{
-    if register(file, base, i.a) == 0 {
-        Did::To(i.c)
-    } else {
-        Did::On
-    }
-}
-
-pub fn jump_negative(i: Instruction, file: &[i32; 128], base: usize) -> Did
-    requires { (base ≤ 120) × (i.a < 8) }
-    ensures { result ≡ cond (is_negative (get_or file.now (base + i.a) (pos 0))) (Did.To i.c) Did.On }
-{
-    if register(file, base, i.a) < 0 {
-        Did::To(i.c)
-    } else {
-        Did::On
+    // Register 2 of the process at 8 by registers 0 and 1 of it.
+    #[test]
+    fn operates(rt: HostRuntime) -> Result<(), Fail> {
+        let i = Instruction {
+            op: 6,
+            a: 2,
+            b: 0,
+            c: 1,
+        };
+        let mut file = [0; 128];
+        assign(&mut file, 8, 0, -7);
+        assert!(rt; operate(i, &mut file, 8, arithmetic::quotient) == Did::Fault);
+        assert_eq!(rt; register(&file, 8, 2), 0);
+        assign(&mut file, 8, 1, 2);
+        assert!(rt; operate(i, &mut file, 8, arithmetic::quotient) == Did::On);
+        assert_eq!(rt; register(&file, 8, 2), -4);
+        assert!(rt; operate(i, &mut file, 8, |x, y| Some(arithmetic::product(x, y))) == Did::On);
+        assert_eq!(rt; register(&file, 8, 2), -14);
+        assert_eq!(rt; file[2], 0);
+        Ok(())
     }
 }

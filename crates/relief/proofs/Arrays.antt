@@ -1,4 +1,4 @@
--- The search on the waits of a lane's processes is the lane's, and the channel that grows is one entry of an array.
+-- The search on the waits of a lane's processes is the lane's.
 -- Assumes nothing.
 use mathlib.Core.Path.{◌≡◌, sym, ap, ◌∙◌, fun_ext}
 use mathlib.Core.List.{List}
@@ -6,20 +6,14 @@ use Prim.Native.Nat.{ℕ, ◌<◌}
 use native.Mathlib.Decide.{dec_lt}
 use native.Mathlib.Omega.{arith}
 use borrow.Author.Tests.{le-ltb}
-use lib.ListN.{get_or, set}
-use Rattle.process.specs.declared.Channel.{Channel}
-use Rattle.process.specs.Channels.{no_channel, enlarge_one}
 use Rattle.lane.specs.declared.Lane.{Lane}
-use Rattle.lane.specs.State.{channel_of}
 use Rattle.lane.proofs.SoundLaws.{Sound}
-use Rattle.lane_parts.specs.Parts.{channels_of, ThirtyTwo}
-use Rattle.lane_parts.proofs.Zip.{put_enlarged}
 use Rattle.rings.specs.Rings.{Found, search}
 use Rattle.rings.specs.Arrays.{points_in, number_in}
 use Rattle.rings.proofs.Pointings.{points_at, points_off}
 use Rattle.rings.proofs.Inside.{search_same}
 use Rattle.waits.specs.Waits.{pointing, full_wait, waits_at}
-use Rattle.waits.specs.Lent.{Arrays, Shows, AreWaits}
+use Rattle.waits.specs.Parts.{AreWaits}
 use Rattle.relief.specs.Relief.{found_in}
 use Rattle.relief.proofs.Relieving.{pointing_stays}
 
@@ -41,11 +35,3 @@ module _ (l : Lane) (s : Sound l) {points full channel : List ℕ} where
 
   pub found_at : {used : ℕ} {o : Found} → used ≡ l.network.processes → AreWaits l points full channel → o ≡ search (points_in points used) (number_in full) (number_in channel) used → found_in l ≡ o
   found_at e t r = sym (found_same t) ∙ ap (λ (P : ℕ). search (points_in points P) (number_in full) (number_in channel) P) (sym e) ∙ sym r
-
--- ---- the channel that grows
-pub grew :
-    (v : Arrays) (l : Lane) → Shows v l → ThirtyTwo v.capacity v.oldest v.held v.peak v.closed → (c : ℕ) {h k : Channel}
-    → h ≡ get_or (channels_of v.capacity v.oldest v.held v.peak v.closed) c no_channel
-    → k ≡ enlarge_one h
-    → channels_of (set v.capacity c k.capacity) v.oldest v.held v.peak v.closed ≡ set l.channels c (enlarge_one (channel_of l c))
-grew v l shown t c e f = put_enlarged t c e f ∙ rw (f, e, ← shown.channel)

@@ -25,6 +25,7 @@ use Rattle.lane.proofs.Keeps.{put_channel_sound, count_sound}
 use Rattle.lane.proofs.CallLaws.{Preserves}
 use Rattle.waits.specs.Waits.{wait_in, wait_of, room_in, channel_waited, pointing, full_wait, waits_at}
 use Rattle.rings.specs.Rings.{ring_of, least, on_ring_below, first_from, Found, no_ring, ceiling, found, search}
+pub use Rattle.relief.specs.Relief.{Enlargeable}
 use Rattle.relief.specs.Relief.{Relief, relief, refused, enlarged, found_in, larger, grown, settled, relieve_of}
 use Rattle.rings.proofs.Least.{least_below}
 use Rattle.rings.proofs.First.{first_holds}
@@ -59,11 +60,6 @@ search_finds f full chan P ring c e = at (ltb p P) (ltb q P) refl e
     at false false l e = absurd (never no_ring e (inr refl))
 
 -- ---- in a lane
--- a channel that can be enlarged
-pub record Enlargeable (l : Lane) (c : ℕ) : Type 0 where
-  pub there : c < l.network.channels
-  pub below : (channel_of l c).capacity < 256
-
 pub found_enlargeable : (l : Lane) → sound_of l ≡ true → (ring : List ℕ) (c : ℕ) → found_in l ≡ found ring c → Enlargeable l c
 unfolding wait_of full_wait waits_at
 found_enlargeable l s ring c e =

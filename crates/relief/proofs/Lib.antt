@@ -1,5 +1,5 @@
-pub mod Front
 pub mod Enlarged
 pub mod Relieving
 pub mod Arrays
 pub mod Unwanted
+pub mod Steps

@@ -1,2 +1,1 @@
 pub mod Relief
-pub mod Lent

@@ -1,13 +1,15 @@
 -- Document 01, "Relief" and "Refusal table", 13 to 16: what relief answers, and what it leaves of the lane and the lent buffer.
 -- Assumes nothing.
-use Rattle.std.specs.Prelude.{◌≡◌, ◌⊎◌, cond, not, List, ◌++◌, ℕ, ltb, length, drop}
+use Rattle.std.specs.Prelude.{◌≡◌, ◌⊎◌, cond, not, List, ◌++◌, ℕ, ◌<◌, ltb, length, drop}
 use Rattle.base.specs.Refusals.{number_of}
 use Rattle.process.specs.Channels.{enlarge_one}
 use Rattle.lane.specs.declared.Lane.{Lane}
 use Rattle.lane.specs.State.{channel_of, put_channel, count}
 use Rattle.lane.specs.Sound.{sound_of}
-use Rattle.relief.specs.declared.ReliefAnswer.{ReliefAnswer}
-use Rattle.relief.specs.declared.ReliefAnswer.TheVariants.{Enlarged, Refused}
+use Rattle.std.specs.declared.result.Result.{Result}
+use Rattle.std.specs.declared.result.Result.TheVariants.{Ok, Err}
+use Rattle.base.specs.declared.Refusal.{Refusal}
+use Rattle.relief.specs.declared.Enlargement.{Enlargement}
 use Rattle.waits.specs.Waits.{pointing, full_wait, waits_at}
 use Rattle.rings.specs.Rings.{Found, no_ring, ceiling, found, search}
 
@@ -17,9 +19,9 @@ pub data Told : Type 0 where
   refused : ℕ → Told
 
 -- the answer of the code, in these terms
-abbrev pub told : ReliefAnswer → Told
-told (Enlarged n c) = enlarged n c
-told (Refused r) = refused (number_of r)
+abbrev pub told : Result Enlargement Refusal → Told
+told (Ok e) = enlarged e.length e.channel
+told (Err r) = refused (number_of r)
 
 -- enlarged, 13 or 14, and no other answer: so it is on a sound lane with room for all its processes (`relief_answers` of proofs/Relieving.antt)
 abbrev pub NoOther : Told → Type 0
@@ -38,6 +40,11 @@ relief a l ring = record { answer = a; lane = l; ring = ring }
 -- the ring and the channel of a lane
 abbrev pub found_in : Lane → Found
 found_in l = search (pointing l) (full_wait l) (waits_at l) l.network.processes
+
+-- a channel that can be enlarged
+pub record Enlargeable (l : Lane) (c : ℕ) : Type 0 where
+  pub there : c < l.network.channels
+  pub below : (channel_of l c).capacity < 256
 
 -- channel c "grows by one"
 abbrev pub larger : ℕ → Lane → Lane

@@ -1,166 +1,92 @@
 // Relief: the ring that is relieved, and the channel that grows.
 #![tactic(auto)]
 
-ghost use Rattle.std.specs.Prelude.{◌≡◌, ◌++◌, ◌≤◌, length, take, drop};
-ghost use Rattle.waits.specs.Lent.{arrays, Relievable};
-ghost use Rattle.relief.specs.Relief.{told, relief, relieve_of};
-ghost use Rattle.relief.specs.Lent.{counts, Eased};
+ghost use Rattle.std.specs.Prelude.{◌≡◌, ◌++◌, ◌≤◌, ◌<◌, List, ℕ, MatchResult, length, take, drop};
+ghost use Rattle.base.specs.declared.Refusal.TheVariants.{Buffer};
+ghost use Rattle.rings.specs.Arrays.{found_of};
+ghost use Rattle.relief.specs.Relief.{Enlargeable, told, relief, found_in, grown, settled, relieve_of};
 
 use base::Refusal;
-use lane::Lane;
+use lane::{Answered, Lane, SoundLane};
+use rings::{Ring, Unrelieved};
 
 // A ring was found and its channel enlarged: the ring's length, whose processes stand in the lent buffer, and the channel.
-#[derive(Drop)]
-pub enum ReliefAnswer {
-    Enlarged { length: usize, channel: usize },
-    Refused(Refusal),
+#[derive(Clone, Copy, PartialEq, Eq)]
+pub struct Enlargement {
+    pub length: usize,
+    pub channel: usize,
 }
 
-#[derive(Drop)]
-pub struct Relieved {
-    pub lane: Lane,
-    pub answer: ReliefAnswer,
-}
-
-// The first n processes of a ring into the front of a buffer.
-fn write(buffer: &mut [u8], ring: [u8; 16], n: usize)
-    requires { (n ≤ 16) × (n ≤ length buffer.old) }
-    ensures { buffer.new ≡ take n ring ++ drop n buffer.old }
+// The ring of a lane that is to be relieved, by which relief is settled.
+fn ring_in(sound: &SoundLane) -> Result<Ring, Unrelieved>
+    ensures found { found_of result ≡ found_in sound.now.lane }
+    ensures settles { (buffer : List ℕ) → relieve_of sound.now.lane buffer ≡ settled (found_of result) sound.now.lane buffer }
 {
-    let mut i = 0;
-    while i < n {
-        buffer[i] = ring[i];
-        i += 1;
-    }
+    let waits = waits::waits_in(sound);
+    rings::search(
+        &waits.points,
+        &waits.full,
+        &waits.channel,
+        sound.lane.network.processes,
+    )
 }
 
-// The relief of a sound lane with these arrays: the channel of the first ring that has a full wait below 256 grows by one, and the ring's
-// processes go into the front of the lent buffer. Refused in the order 13 or 14, 15. Public for `schedule`, whose callers, the run, the driver and
-// the bench, have tested once that the lane is sound.
-pub fn relieve_in(
-    used: usize,
-    code: &[u8; 4064],
-    first: &[u16; 16],
-    sender: &[u8; 32],
-    receiver: &[u8; 32],
-    positions: &[u16; 16],
-    conditions: &[u8; 16],
-    capacity: &mut [u16; 32],
-    oldest: &[u16; 32],
-    held: &[u16; 32],
-    peak: &[u16; 32],
-    closed: &[bool; 32],
-    ring: &mut [u8],
-) -> ReliefAnswer
-    requires { Relievable used (arrays code.now first.now sender.now receiver.now positions.now conditions.now capacity.old oldest.now held.now peak.now closed.now) }
-    ensures { Eased used (arrays code.now first.now sender.now receiver.now positions.now conditions.now capacity.old oldest.now held.now peak.now closed.now) ring.old result capacity.new ring.new }
+// The processes of a ring into the front of a buffer, if that has room for them.
+fn write(ring: &Ring, buffer: &mut [u8]) -> Result<(), Refusal>
+    ensures { MatchResult result
+        (λ u. (ring.now.length ≤ length buffer.old) × (buffer.new ≡ take ring.now.length ring.now.members ++ drop ring.now.length buffer.old))
+        (λ r. (r ≡ Buffer) × (length buffer.old < ring.now.length) × (buffer.new ≡ buffer.old)) }
 {
-    let mut points = [255u8; 16];
-    let mut full = [0u16; 16];
-    let mut channel = [0u8; 16];
-    waits::waits_in(
-        used,
-        code,
-        first,
-        sender,
-        receiver,
-        positions,
-        conditions,
-        capacity,
-        oldest,
-        held,
-        peak,
-        closed,
-        &mut points,
-        &mut full,
-        &mut channel,
-    );
-    let sought = rings::search(&points, &full, &channel, used);
-    let length = sought.length;
-    let c = sought.channel;
-    if length == 0 {
-        if sought.ceiling {
-            return ReliefAnswer::Refused(Refusal::Ceiling);
-        }
-        return ReliefAnswer::Refused(Refusal::NoRing);
+    if buffer.len() < ring.length {
+        return Err(Refusal::Buffer);
     }
-    if ring.len() < length {
-        return ReliefAnswer::Refused(Refusal::Buffer);
-    }
-    let members = sought.ring;
-    write(ring, members, length);
-    let grown = lane_parts::channel_at(c, capacity, oldest, held, peak, closed).enlarge();
-    capacity[c] = grown.capacity;
-    ReliefAnswer::Enlarged { length, channel: c }
+    buffer[..ring.length].copy_from_slice(&ring.members[..ring.length]);
+    Ok(())
 }
 
-// The lane that a relief left, with its answer: one that enlarged is an accepted call.
-fn answered(lane: Lane, answer: ReliefAnswer) -> Relieved
-    ensures { result ≡ record { lane = counts (told answer) lane; answer = answer } }
+// Channel c grows by one, which is one more accepted call.
+#[tactic(auto, using(crate::proofs::Steps::grows_low, crate::proofs::Steps::grown_stays))]
+fn grow(sound: &mut SoundLane, c: usize)
+    requires { Enlargeable sound.old.lane c }
+    ensures { sound.new.lane ≡ grown c sound.old.lane }
 {
-    match answer {
-        ReliefAnswer::Enlarged { length, channel } => {
-            let mut l = lane;
-            l.accepted = process::counted(l.accepted);
-            Relieved {
-                lane: l,
-                answer: ReliefAnswer::Enlarged { length, channel },
-            }
-        }
-        ReliefAnswer::Refused(refusal) => Relieved {
-            lane,
-            answer: ReliefAnswer::Refused(refusal),
-        },
-    }
+    sound.lane.channels[c] = sound.lane.channels[c].enlarge();
+    lane_parts::count(&mut sound.lane);
 }
 
-// The relief of a lane, which is taken apart for it. Refused in the order 16, 13 or 14, 15.
-pub fn relieve(lane: Lane, ring: &mut [u8]) -> Relieved
+// The relief of a sound lane: the channel of the first ring that has a full wait below 256 grows by one, the ring's processes go into the front of the lent
+// buffer, and one more accepted call is counted. Refused in the order 13 or 14, 15. Public for `schedule`, whose callers, the run, the driver and the bench,
+// have tested once that the lane is sound.
+#[tactic(auto, using(crate::proofs::Steps::grows))]
+pub fn relieve_in(sound: &mut SoundLane, ring: &mut [u8]) -> Result<Enlargement, Refusal>
+    ensures answered { relief (told result) sound.new.lane ring.new ≡ relieve_of sound.old.lane ring.old }
+    ensures same_network { sound.new.lane.network ≡ sound.old.lane.network }
+{
+    let found = ring_in(sound)?;
+    write(&found, ring)?;
+    grow(sound, found.channel);
+    Ok(Enlargement {
+        length: found.length,
+        channel: found.channel,
+    })
+}
+
+// The relief of a lane. Refused in the order 16, 13 or 14, 15.
+#[tactic(auto, using(crate::proofs::Steps::unsound_relief))]
+pub fn relieve(lane: Lane, ring: &mut [u8]) -> Answered<Enlargement>
     ensures { relief (told result.answer) result.lane ring.new ≡ relieve_of lane ring.old }
 {
-    if !lane_sound::sound(lane) {
-        return answered(lane, ReliefAnswer::Refused(Refusal::Unsound));
+    match lane_sound::tested(lane) {
+        Ok(mut sound) => {
+            let answer = relieve_in(&mut sound, ring);
+            Answered {
+                lane: sound.lane,
+                answer,
+            }
+        }
+        Err(refusal) => Answered {
+            lane,
+            answer: Err(refusal),
+        },
     }
-    let code = lane.network.code;
-    let first = lane.network.first;
-    let sender = lane.network.sender;
-    let receiver = lane.network.receiver;
-    let processes = lane.processes;
-    let channels = lane.channels;
-    let mut positions = [0u16; 16];
-    let mut conditions = [0u8; 16];
-    let mut moves = [0u64; 16];
-    lane_parts::part_processes(processes, &mut positions, &mut conditions, &mut moves);
-    let mut capacity = [0u16; 32];
-    let mut oldest = [0u16; 32];
-    let mut held = [0u16; 32];
-    let mut peak = [0u16; 32];
-    let mut closed = [false; 32];
-    lane_parts::part_channels(
-        channels,
-        &mut capacity,
-        &mut oldest,
-        &mut held,
-        &mut peak,
-        &mut closed,
-    );
-    let answer = relieve_in(
-        lane.network.processes,
-        &code,
-        &first,
-        &sender,
-        &receiver,
-        &positions,
-        &conditions,
-        &mut capacity,
-        &oldest,
-        &held,
-        &peak,
-        &closed,
-        ring,
-    );
-    let after = lane_parts::join_channels(&capacity, &oldest, &held, &peak, &closed);
-    let mut l = lane;
-    l.channels = after;
-    answered(l, answer)
 }

@@ -3,7 +3,7 @@
 use mathlib.Core.Path.{◌≡◌, refl, sym, ap, ◌∙◌}
 use mathlib.Core.Bool.{Bool, true, false, cond, not, ◌&&◌, ◌||◌}
 use mathlib.Core.List.{List, ◌∷◌}
-use Prim.Native.Nat.{ℕ, ◌+◌, ◌-◌, ◌≤◌, ◌<◌}
+use Prim.Native.Nat.{ℕ, suc, ◌+◌, ◌-◌, ◌≤◌, ◌<◌}
 use native.Mathlib.Decide.{ℕ_discrete, dec_lt}
 use native.Mathlib.Numerals.{add-one}
 use native.Mathlib.Omega.{arith}
@@ -126,13 +126,19 @@ module _ (f full chan : ℕ → ℕ) (P : ℕ) (small : P ≤ 16) where
         pub trail_grows : chan (least full chan start (ring_of f P start)) ≡ channel
         trail_grows = ap (λ (k : ℕ). chan (least full chan start (chain f k start))) closed ∙ sym t.number
 
-        pub trail_below : (limit : ℕ) → on_ring_below f full P limit start ≡ (not (eqb capacity 0) && ltb capacity limit)
-        unfolding chain
-        trail_below limit =
-            let c : ring_of f P start ≡ start ∷ chain f n (f start) = ap (λ (k : ℕ). chain f k start) (closed ∙ add-one n) in
-            let r : full (least full chan start (start ∷ chain f n (f start))) ≡ capacity =
-            ap (λ (l : List ℕ). full (least full chan start l)) (sym c) ∙ ap (λ (k : ℕ). full (least full chan start (chain f k start))) closed ∙ sym t.room in
-            ap (some_below full limit) c ∙ some_least full limit chan (chain f n (f start)) start ∙ ap (λ (k : ℕ). not (eqb k 0) && ltb k limit) r
+        pub trail_room : full (least full chan start (ring_of f P start)) ≡ capacity
+        trail_room = ap (λ (k : ℕ). full (least full chan start (chain f k start))) closed ∙ sym t.room
+
+-- on a ring with a full wait below a capacity is who is on a ring where the one to relieve is below it
+pub ring_below : (f full chan : ℕ → ℕ) (P start limit capacity : ℕ) → RingOf f P start (ring_length f P start)
+    → capacity ≡ full (least full chan start (ring_of f P start)) → on_ring_below f full P limit start ≡ (not (eqb capacity 0) && ltb capacity limit)
+unfolding chain
+ring_below f full chan P start limit capacity r e =
+    let n = ring_length f P start - 1 in
+    let closed : ring_length f P start ≡ suc n = omega (arith, r.some) in
+    let c : ring_of f P start ≡ start ∷ chain f n (f start) = ap (λ (k : ℕ). chain f k start) closed in
+    ap (some_below full limit) c ∙ some_least full limit chan (chain f n (f start)) start
+    ∙ ap (λ (k : ℕ). not (eqb k 0) && ltb k limit) (ap (λ (l : List ℕ). full (least full chan start l)) (sym c) ∙ sym e)
 
 -- no walk led back: no ring
 pub off_ring : (f full : ℕ → ℕ) (P limit start : ℕ) → ring_length f P start ≡ 0 → on_ring_below f full P limit start ≡ false
@@ -141,23 +147,21 @@ off_ring f full P limit start e = rw e
 
 -- ---- the search before process start: no process before it is on a ring with a full wait below 256, and `high` says whether one is on a ring with
 -- any full wait
-pub record Passed (f full : ℕ → ℕ) (P : ℕ) (ring : List ℕ) (start : ℕ) (high : Bool) : Type 0 where
+pub record Passed (f full : ℕ → ℕ) (P : ℕ) (start : ℕ) (high : Bool) : Type 0 where
   pub within : start ≤ P
-  pub size : length ring ≡ 16
   pub below : first_from (on_ring_below f full P 256) start (P - start) ≡ first_from (on_ring_below f full P 256) 0 P
   pub ceiling : (high || ltb (first_from (on_ring_below f full P 257) start (P - start)) P) ≡ ltb (first_from (on_ring_below f full P 257) 0 P) P
 
 module _ (f full : ℕ → ℕ) (P : ℕ) where
-  pub passed_none : (ring : List ℕ) → length ring ≡ 16 → Passed f full P ring 0 false
-  passed_none ring e =
+  pub passed_none : Passed f full P 0 false
+  passed_none =
       record {
         within = omega arith;
-        size = e;
         below = ap (first_from (on_ring_below f full P 256) 0) (omega arith);
         ceiling = ap (λ (k : ℕ). ltb (first_from (on_ring_below f full P 257) 0 k) P) (omega arith);
       }
 
-  module _ (ring : List ℕ) (start : ℕ) (high : Bool) (s : Passed f full P ring start high) (more : start < P) where
+  module _ (start : ℕ) (high : Bool) (s : Passed f full P start high) (more : start < P) where
     higher : (t : Bool) → on_ring_below f full P 257 start ≡ t
         → ((high || t) || ltb (first_from (on_ring_below f full P 257) (start + 1) (P - (start + 1))) P) ≡ ltb (first_from (on_ring_below f full P 257) 0 P) P
     higher true e =
@@ -166,20 +170,19 @@ module _ (f full : ℕ → ℕ) (P : ℕ) where
     higher false e = rw (or_false high, first.on (on_ring_below f full P 257) start P more e) s.ceiling
 
     -- process start is not on a ring with a full wait below 256
-    pub passed_more : (ring' : List ℕ) (high' : Bool) → length ring' ≡ 16 → on_ring_below f full P 256 start ≡ false → high' ≡ (high || on_ring_below f full P 257 start)
-        → Passed f full P ring' (start + 1) high'
-    passed_more ring' high' l e h =
+    pub passed_more : (high' : Bool) → on_ring_below f full P 256 start ≡ false → high' ≡ (high || on_ring_below f full P 257 start)
+        → Passed f full P (start + 1) high'
+    passed_more high' e h =
         record {
           within = omega arith;
-          size = l;
           below = first.on (on_ring_below f full P 256) start P more e ∙ s.below;
           ceiling = rw h (higher (on_ring_below f full P 257 start) refl);
         }
 
     -- it is on no ring
-    pub passed_off : (ring' : List ℕ) → length ring' ≡ 16 → ring_length f P start ≡ 0 → Passed f full P ring' (start + 1) high
-    passed_off ring' l e =
-        passed_more ring' high l (off_ring f full P 256 start e) (sym (or_false high) ∙ ap (λ (t : Bool). high || t) (sym (off_ring f full P 257 start e)))
+    pub passed_off : ring_length f P start ≡ 0 → Passed f full P (start + 1) high
+    passed_off e =
+        passed_more high (off_ring f full P 256 start e) (sym (or_false high) ∙ ap (λ (t : Bool). high || t) (sym (off_ring f full P 257 start e)))
 
     -- it is on one
     pub search_found : (chan : ℕ → ℕ) → on_ring_below f full P 256 start ≡ true → search f full chan P ≡ found (ring_of f P start) (chan (least full chan start (ring_of f P start)))
@@ -189,9 +192,9 @@ module _ (f full : ℕ → ℕ) (P : ℕ) where
         rw (q, lt-ltb start P more)
 
   -- all are passed
-  pub search_none : (chan : ℕ → ℕ) (ring : List ℕ) (start : ℕ) (high : Bool) → Passed f full P ring start high → P ≤ start → cond high ceiling no_ring ≡ search f full chan P
+  pub search_none : (chan : ℕ → ℕ) (start : ℕ) (high : Bool) → Passed f full P start high → P ≤ start → cond high ceiling no_ring ≡ search f full chan P
   unfolding search
-  search_none chan ring start high s h =
+  search_none chan start high s h =
       let low : P ≤ first_from (on_ring_below f full P 256) 0 P = omega (arith, s.below, first.over (on_ring_below f full P 256) start P h) in
       let all : ltb (first_from (on_ring_below f full P 257) 0 P) P ≡ high =
       sym s.ceiling ∙ ap (λ (t : Bool). high || t) (le-ltb _ P (omega (arith, first.over (on_ring_below f full P 257) start P h))) ∙ or_false high in

@@ -1,5 +1,4 @@
-pub mod Stretches
-pub mod Lent
-pub mod Ways
+pub mod Bytes
+pub mod Tests
 pub mod Reliefs
 pub mod Witness

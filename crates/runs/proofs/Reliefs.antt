@@ -6,7 +6,7 @@ use mathlib.Core.List.{List, [], ◌∷◌}
 use Prim.Native.Nat.{ℕ, suc, ◌<◌}
 use native.Mathlib.Decide.{ℕ_discrete}
 use native.Mathlib.Omega.{arith}
-use borrow.Author.Tests.{eq-eqb, ne_eqb}
+use borrow.Author.Tests.{eq-eqb, ne_eqb, not-false}
 use lib.Dec.{eqb}
 use lib.ListN.{length, get_or}
 use Rattle.network.specs.declared.Network.{Network}
@@ -15,7 +15,7 @@ use Rattle.schedule.specs.Running.{Running, begun, picks, relieves}
 use Rattle.schedule.proofs.Ready.{Ready, ready_answers, ready_picks, ready_relieves, ready}
 use Rattle.runs.specs.Run.{byte_run}
 use Rattle.runs.specs.Reliefs.{InBytes, InRun}
-use Rattle.runs.proofs.Stretches.{all_named}
+use Rattle.runs.proofs.Tests.{process_named}
 
 module _ (n : Network) where
   -- ---- the bytes of a run
@@ -34,4 +34,4 @@ module _ (n : Network) where
 
 -- ---- from the tests on
 pub run_no_other : (bytes : List ℕ) (w : World) → InRun bytes w
-run_no_other bytes w shaped e f g = in_bytes w.lane.network bytes (begun w) (all_named bytes w g) (ready w shaped e f)
+run_no_other bytes w shaped e f g = in_bytes w.lane.network bytes (begun w) (process_named bytes w.lane.network.processes (not-false _ g)) (ready w shaped e f)

@@ -1,4 +1,2 @@
 pub mod Run
 pub mod Reliefs
-pub mod Stretches
-pub mod Lent

@@ -6,8 +6,10 @@ use Rattle.base.specs.Refusals.{number_of}
 use Rattle.base.specs.Tests.{first_bad, is_good}
 use Rattle.lane.specs.State.{World}
 use Rattle.lane.specs.Calls.{cells_wrong, unsound}
-use Rattle.runs.specs.declared.RunAnswer.{RunAnswer}
-use Rattle.runs.specs.declared.RunAnswer.TheVariants.{Ran, Refused}
+use Rattle.std.specs.declared.result.Result.{Result as Answer}
+use Rattle.std.specs.declared.result.Result.TheVariants.{Ok, Err}
+use Rattle.base.specs.declared.Refusal.{Refusal}
+use Rattle.runs.specs.declared.Ran.{Ran}
 use Rattle.schedule.specs.Running.{Running, begun, picks, relieves}
 
 -- one byte
@@ -23,9 +25,9 @@ pub data Told : Type 0 where
   refused : ℕ → Told
 
 -- the answer of the code, in these terms
-abbrev pub told : RunAnswer → Told
-told (Ran m e) = ran m e
-told (Refused r) = refused (number_of r)
+abbrev pub told : Answer Ran Refusal → Told
+told (Ok r) = ran r.moved r.enlarged
+told (Err r) = refused (number_of r)
 
 pub record Result : Type 0 where
   pub answer : Told

@@ -1,4 +1,3 @@
 pub mod Ready
 pub mod Through
-pub mod Lent
 pub mod Fixture

@@ -1,3 +1,3 @@
 pub mod WaitLaws
 pub mod Receivers
-pub mod Arrays
+pub mod Looks

@@ -16,8 +16,7 @@ use Rattle.lane.specs.State.{ended_at, channel_of}
 use Rattle.lane.specs.Pick.{channel_in, instruction_for}
 use Rattle.lane.proofs.SoundLaws.{Sound}
 use Rattle.lane.proofs.Instructions.{stands_right_lem}
-use Rattle.waits.specs.Parts.{waiting_of}
-use Rattle.waits.proofs.WaitLaws.{waiting_for}
+use Rattle.waits.proofs.WaitLaws.{waiting_of, waiting_for}
 
 module _ (l : Lane) (s : Sound l) (p : ℕ) (h : p < l.network.processes) where
   -- a send names a channel of the network
@@ -29,13 +28,12 @@ module _ (l : Lane) (s : Sound l) (p : ℕ) (h : p < l.network.processes) where
       omega (arith, ltb-true i.b l.network.channels b, (passed l.network s.passed).channels_high)
 
   -- one that has ended holds nothing, and a capacity is at least 1
-  pub not_gone : waiting_of (instruction_for p l).op (not (ended_at l p)) (channel_of l (channel_in (instruction_for p l))) false ≡ waiting_for l p
-  unfolding waiting_of
+  pub not_gone : waiting_of (instruction_for p l).op (not (ended_at l p)) (channel_of l (channel_in (instruction_for p l))) false (channel_in (instruction_for p l)) ≡ waiting_for l p
   not_gone = go (ended_at l (receiver_of l.network (channel_in (instruction_for p l)))) refl (ℕ_discrete (instruction_for p l).op 12)
     where
       go : (gone : Bool) → ended_at l (receiver_of l.network (channel_in (instruction_for p l))) ≡ gone → Dec ((instruction_for p l).op ≡ 12)
-          → waiting_of (instruction_for p l).op (not (ended_at l p)) (channel_of l (channel_in (instruction_for p l))) false
-          ≡ waiting_of (instruction_for p l).op (not (ended_at l p)) (channel_of l (channel_in (instruction_for p l))) gone
+          → waiting_of (instruction_for p l).op (not (ended_at l p)) (channel_of l (channel_in (instruction_for p l))) false (channel_in (instruction_for p l))
+          ≡ waiting_of (instruction_for p l).op (not (ended_at l p)) (channel_of l (channel_in (instruction_for p l))) gone (channel_in (instruction_for p l))
       go false e d = refl
       go true e (yes q) =
           let c = s.channels (channel_in (instruction_for p l)) (send_there q) in

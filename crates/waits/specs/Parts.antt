@@ -1,45 +1,51 @@
--- What the parts of a look at a process hand on to one another: how it waits, and its wait in numbers. `relieve` says nothing of these.
+-- What a look at a process answers, by the rule; the waits of all processes side by side; who could be on a ring with a full wait. `relieve` says nothing
+-- of these.
 -- Assumes nothing.
-use Rattle.std.specs.Prelude.{Bool, false, cond, not, ◌&&◌, ◌||◌, ℕ, zero, suc, eqb}
-use Rattle.network.specs.Rules.{outside}
-use Rattle.process.specs.declared.Channel.{Channel}
-use Rattle.process.specs.Execute.{full}
+use Rattle.std.specs.Prelude.{◌≡◌, Bool, false, not, ◌&&◌, ◌||◌, List, ℕ, zero, suc, ◌<◌, eqb, get_or}
+use Rattle.network.specs.Rules.{sender_of, receiver_of, outside}
 use Rattle.lane.specs.declared.Lane.{Lane}
-use Rattle.waits.specs.declared.Waiting.{Waiting}
-use Rattle.waits.specs.declared.Waiting.TheVariants.{Free, Empty, Full}
+use Rattle.lane.specs.State as lane
 use Rattle.waits.specs.declared.Wait.{Wait}
+use Rattle.waits.specs.declared.Wait.TheVariants.{Free, Empty, Full}
 use Rattle.waits.specs.Waits as waits
 
--- how a process waits that stands at this opcode, live or not, at this channel, whose receiver has ended or not: "A live process that would wait
--- if picked", at a receive (11) that is "empty and open", or at a send (12), where "sending to a full one waits" and a closed one faults
-unfoldable pub waiting_of : ℕ → Bool → Channel → Bool → Waiting
-waiting_of op live h gone =
-    cond (live && not h.closed) (cond (eqb op 11 && eqb h.held 0) Empty (cond (eqb op 12 && full gone h) Full Free)) Free
+-- what a process waits for, in the terms of the rule
+abbrev pub wait_as : Wait → waits.Wait
+wait_as Free = waits.free
+wait_as (Empty points c) = waits.for_message c
+wait_as (Full points c capacity) = waits.for_room c
 
--- at channel c, in the terms of the rule
-abbrev pub wait_as : Waiting → ℕ → waits.Wait
-wait_as Free c = waits.free
-wait_as Empty c = waits.for_message c
-wait_as Full c = waits.for_room c
+-- its numbers: the process that is pointed to, the capacity of the channel of a full wait, the channel
+abbrev pub points_of : Wait → ℕ
+points_of Free = outside
+points_of (Empty points c) = points
+points_of (Full points c capacity) = points
 
-abbrev pub wait : Waiting → ℕ → ℕ → ℕ → Wait
-wait waiting points full channel = record { waiting = waiting; points = points; full = full; channel = channel }
+abbrev pub full_of : Wait → ℕ
+full_of Free = 0
+full_of (Empty points c) = 0
+full_of (Full points c capacity) = capacity
 
--- the wait of a process that waits so at channel c, from sender to receiver, of a capacity
-abbrev pub wait_from : Waiting → ℕ → ℕ → ℕ → ℕ → Wait
-wait_from Free c sender receiver capacity = wait Free outside 0 0
-wait_from Empty c sender receiver capacity = wait Empty sender 0 c
-wait_from Full c sender receiver capacity = wait Full receiver capacity c
+abbrev pub channel_of : Wait → ℕ
+channel_of Free = 0
+channel_of (Empty points c) = c
+channel_of (Full points c capacity) = c
 
--- how a process waits, by the rule of a pick
-abbrev pub waiting_in : waits.Wait → Waiting
-waiting_in waits.free = Free
-waiting_in (waits.for_message c) = Empty
-waiting_in (waits.for_room c) = Full
+-- a wait of the rule, with the process at the channel's other end and the capacity of the channel of a full wait
+abbrev pub wait_for : Lane → waits.Wait → Wait
+wait_for l waits.free = Free
+wait_for l (waits.for_message c) = Empty (sender_of l.network c) c
+wait_for l (waits.for_room c) = Full (receiver_of l.network c) c (lane.channel_of l c).capacity
 
--- what process p of a lane waits for, by the rule: how it waits, where it points, the capacity of its full wait, its channel
+-- what process p of a lane waits for, by the rule
 abbrev pub wait_by : Lane → ℕ → Wait
-wait_by l p = wait (waiting_in (waits.wait_of l p)) (waits.pointing l p) (waits.full_wait l p) (waits.waits_at l p)
+wait_by l p = wait_for l (waits.wait_of l p)
+
+-- ---- three arrays hold the waits of l's processes: where each points, the capacity of its full wait, its channel
+pub record AreWaits (l : Lane) (points full channel : List ℕ) : Type 0 where
+  pub pointings : (p : ℕ) → p < l.network.processes → get_or points p 0 ≡ waits.pointing l p
+  pub fulls : (p : ℕ) → p < l.network.processes → get_or full p 0 ≡ waits.full_wait l p
+  pub channels : (p : ℕ) → p < l.network.processes → get_or channel p 0 ≡ waits.waits_at l p
 
 -- ---- who could be on a ring with a full wait: where nobody is, relief is refused with 13 (`unwanted_relief` of relief/proofs/Unwanted.antt)
 -- process p waits for room on a channel to a process

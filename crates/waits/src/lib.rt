@@ -1,204 +1,141 @@
-// Who waits for whom: for each process of a sound lane how it waits, the process that it points to, and its full wait.
+// Who waits for whom: what each process of a sound lane waits for, and the process that it points to.
 #![tactic(auto)]
 
-ghost use Rattle.std.specs.Prelude.{◌≡◌, false, length};
-ghost use Rattle.waits.specs.Parts.{waiting_of, wait_from};
-ghost use Rattle.waits.specs.Lent.{arrays, Relievable, Waitable, Looked, RoomLooked, RoomsLooked, AllLooked};
+ghost use Rattle.std.specs.Prelude.{◌≡◌, ◌<◌};
+ghost use Rattle.waits.specs.Parts.{points_of, full_of, channel_of, wait_by, AreWaits, wants_room, some_wants_room};
 
-use process::Channel;
+use lane::SoundLane;
+use process::Condition;
 
-// How a process would wait if picked: not at all, for a message, or for room.
-#[derive(Drop)]
-pub enum Waiting {
+// What a process would wait for if picked: nothing, a message, or room; with the channel, the process at its other end, 255 for the outside, and the
+// capacity of a channel that is full.
+#[derive(Clone, Copy, PartialEq, Eq)]
+pub enum Wait {
     Free,
-    Empty,
-    Full,
+    Empty {
+        points: u8,
+        channel: u8,
+    },
+    Full {
+        points: u8,
+        channel: u8,
+        capacity: u16,
+    },
 }
 
-// What a process waits for: how it waits; the process that it points to, 255 for none; the capacity of the channel of a full wait, 0 for
-// none; the channel. Public for relief and for the bench.
-#[derive(Drop)]
-pub struct Wait {
-    pub waiting: Waiting,
-    pub points: u8,
-    pub full: u16,
-    pub channel: u8,
-}
-
-// How a process waits, live or not, that stands at this opcode, with its channel so: a receive at an empty open channel, a send at a full open one.
-// The receiver of a channel that is full has not ended: one that has holds nothing.
-fn waiting_at(op: u8, live: bool, h: Channel) -> Waiting
-    ensures { result ≡ waiting_of op live h false }
-{
-    if !live {
-        return Waiting::Free;
-    }
-    if h.closed {
-        return Waiting::Free;
-    }
-    if op == 11 {
-        if h.held == 0 {
-            return Waiting::Empty;
-        }
-        return Waiting::Free;
-    }
-    if op == 12 {
-        if h.held == h.capacity {
-            return Waiting::Full;
+impl Wait {
+    // The process that is pointed to, 255 for none.
+    pub fn points(self) -> u8
+        ensures { result ≡ points_of self }
+    {
+        match self {
+            Wait::Free => 255,
+            Wait::Empty { points, .. } => points,
+            Wait::Full { points, .. } => points,
         }
     }
-    Waiting::Free
+
+    // The capacity of the channel of a full wait, 0 for none.
+    pub fn full(self) -> u16
+        ensures { result ≡ full_of self }
+    {
+        match self {
+            Wait::Full { capacity, .. } => capacity,
+            _ => 0,
+        }
+    }
+
+    // The channel, 0 for none.
+    pub fn channel(self) -> u8
+        ensures { result ≡ channel_of self }
+    {
+        match self {
+            Wait::Free => 0,
+            Wait::Empty { channel, .. } => channel,
+            Wait::Full { channel, .. } => channel,
+        }
+    }
 }
 
-// What a process waits for that waits so at channel c, with these ends and this capacity.
-fn wait_in(waiting: Waiting, c: u8, sender: u8, receiver: u8, capacity: u16) -> Wait
-    ensures { result ≡ wait_from waiting c sender receiver capacity }
+// The waits of the processes, as the search for a ring takes them: where each points, 255 for nowhere; the capacity of its full wait, 0 for none; its
+// channel.
+#[derive(Clone, Copy)]
+pub struct Waits {
+    pub points: [u8; 16],
+    pub full: [u16; 16],
+    pub channel: [u8; 16],
+}
+
+// What process p waits for, by its instruction: nothing is picked. A receive waits at an empty open channel, a send at a full open one; the receiver of
+// a channel that is full has not ended, since one that has holds nothing. Public for the bench, which prints how each process stands.
+#[tactic(auto, using(crate::proofs::Looks::ended_waits, crate::proofs::Looks::closed_waits, crate::proofs::Looks::empty_waits, crate::proofs::Looks::held_waits, crate::proofs::Looks::full_waits, crate::proofs::Looks::room_waits, crate::proofs::Looks::other_waits))]
+pub fn wait_at(sound: &SoundLane, p: usize) -> Wait
+    requires { p < sound.now.lane.network.processes }
+    ensures { result ≡ wait_by sound.now.lane p }
 {
-    match waiting {
-        Waiting::Free => Wait {
-            waiting: Waiting::Free,
-            points: 255,
-            full: 0,
-            channel: 0,
+    let lane = &sound.lane;
+    let instruction = lane_parts::instruction_of(sound, p);
+    let c = lane_parts::channel_of(instruction);
+    let channel = lane.channels[c];
+    let receiver = lane.network.receiver[c];
+    if lane.processes[p].condition != Condition::Live || channel.closed {
+        return Wait::Free;
+    }
+    match instruction.op {
+        11 if channel.held == 0 => Wait::Empty {
+            points: lane.network.sender[c],
+            channel: c as u8,
         },
-        Waiting::Empty => Wait {
-            waiting: Waiting::Empty,
-            points: sender,
-            full: 0,
-            channel: c,
-        },
-        Waiting::Full => Wait {
-            waiting: Waiting::Full,
+        12 if channel.held == channel.capacity => Wait::Full {
             points: receiver,
-            full: capacity,
-            channel: c,
+            channel: c as u8,
+            capacity: channel.capacity,
         },
+        _ => Wait::Free,
     }
 }
 
-// How process p of a sound lane waits and for what, by its instruction: nothing is picked. Public for the bench, which prints how each process
-// stands; the callers have shown that the lane is sound.
-pub fn wait_at(
-    p: usize,
-    code: &[u8; 4064],
-    first: &[u16; 16],
-    sender: &[u8; 32],
-    receiver: &[u8; 32],
-    positions: &[u16; 16],
-    conditions: &[u8; 16],
-    capacity: &[u16; 32],
-    oldest: &[u16; 32],
-    held: &[u16; 32],
-    peak: &[u16; 32],
-    closed: &[bool; 32],
-) -> Wait
-    requires { Waitable p (arrays code.now first.now sender.now receiver.now positions.now conditions.now capacity.now oldest.now held.now peak.now closed.now) }
-    ensures { Looked p (arrays code.now first.now sender.now receiver.now positions.now conditions.now capacity.now oldest.now held.now peak.now closed.now) result }
+// The waits of all processes. Public for relief.
+pub fn waits_in(sound: &SoundLane) -> Waits
+    ensures { AreWaits sound.now.lane result.points result.full result.channel }
 {
-    let i = network::fetch(code, lane_parts::place(first[p], positions[p]));
-    let c = lane_parts::channel_of(i);
-    let h = lane_parts::channel_at(c, capacity, oldest, held, peak, closed);
-    let to = receiver[c];
-    let waiting = waiting_at(i.op, conditions[p] == 0, h);
-    wait_in(waiting, c as u8, sender[c], to, h.capacity)
-}
-
-// The same of each process, in three arrays: where it points, its full wait, its channel. Public for relief, whose callers have shown that the lane is
-// sound.
-pub fn waits_in(
-    used: usize,
-    code: &[u8; 4064],
-    first: &[u16; 16],
-    sender: &[u8; 32],
-    receiver: &[u8; 32],
-    positions: &[u16; 16],
-    conditions: &[u8; 16],
-    capacity: &[u16; 32],
-    oldest: &[u16; 32],
-    held: &[u16; 32],
-    peak: &[u16; 32],
-    closed: &[bool; 32],
-    points: &mut [u8; 16],
-    full: &mut [u16; 16],
-    channel: &mut [u8; 16],
-)
-    requires { Relievable used (arrays code.now first.now sender.now receiver.now positions.now conditions.now capacity.now oldest.now held.now peak.now closed.now) × (length points.old ≡ 16) × (length full.old ≡ 16) × (length channel.old ≡ 16) }
-    ensures { AllLooked used (arrays code.now first.now sender.now receiver.now positions.now conditions.now capacity.now oldest.now held.now peak.now closed.now) points.new full.new channel.new }
-{
-    let mut p = 0;
-    while p < used {
-        let wait = wait_at(
-            p, code, first, sender, receiver, positions, conditions, capacity, oldest, held, peak,
-            closed,
-        );
-        points[p] = wait.points;
-        full[p] = wait.full;
-        channel[p] = wait.channel;
-        p += 1;
+    let mut waits = Waits {
+        points: [255; 16],
+        full: [0; 16],
+        channel: [0; 16],
+    };
+    for p in 0..sound.lane.network.processes {
+        let wait = wait_at(sound, p);
+        waits.points[p] = wait.points();
+        waits.full[p] = wait.full();
+        waits.channel[p] = wait.channel();
     }
+    waits
 }
 
-// Whether process p of a sound lane waits for room on a channel to a process. Only one that stands at a send can, so its opcode is looked at first.
-fn wants_room_at(
-    p: usize,
-    code: &[u8; 4064],
-    first: &[u16; 16],
-    sender: &[u8; 32],
-    receiver: &[u8; 32],
-    positions: &[u16; 16],
-    conditions: &[u8; 16],
-    capacity: &[u16; 32],
-    oldest: &[u16; 32],
-    held: &[u16; 32],
-    peak: &[u16; 32],
-    closed: &[bool; 32],
-) -> bool
-    requires { Waitable p (arrays code.now first.now sender.now receiver.now positions.now conditions.now capacity.now oldest.now held.now peak.now closed.now) }
-    ensures { RoomLooked p (arrays code.now first.now sender.now receiver.now positions.now conditions.now capacity.now oldest.now held.now peak.now closed.now) result }
+// Whether process p waits for room on a channel to a process. Only one that stands at a send can, so its opcode is looked at first.
+#[tactic(auto, using(crate::proofs::Looks::points_at, crate::proofs::Looks::full_at, crate::proofs::Looks::no_send))]
+fn wants_room_at(sound: &SoundLane, p: usize) -> bool
+    requires { p < sound.now.lane.network.processes }
+    ensures { result ≡ wants_room sound.now.lane p }
 {
-    let i = network::fetch(code, lane_parts::place(first[p], positions[p]));
-    if i.op != 12 {
+    if lane_parts::instruction_of(sound, p).op != 12 {
         return false;
     }
-    let wait = wait_at(
-        p, code, first, sender, receiver, positions, conditions, capacity, oldest, held, peak,
-        closed,
-    );
-    if wait.full == 0 {
-        return false;
-    }
-    wait.points != 255
+    let wait = wait_at(sound, p);
+    wait.full() != 0 && wait.points() != 255
 }
 
-// Whether some process of a sound lane does: where none does, no ring can be relieved, and none is searched for. Public for the relief inside a run or
-// a drive (`schedule`), whose callers have shown that the lane is sound.
-pub fn some_wants_room(
-    used: usize,
-    code: &[u8; 4064],
-    first: &[u16; 16],
-    sender: &[u8; 32],
-    receiver: &[u8; 32],
-    positions: &[u16; 16],
-    conditions: &[u8; 16],
-    capacity: &[u16; 32],
-    oldest: &[u16; 32],
-    held: &[u16; 32],
-    peak: &[u16; 32],
-    closed: &[bool; 32],
-) -> bool
-    requires { Relievable used (arrays code.now first.now sender.now receiver.now positions.now conditions.now capacity.now oldest.now held.now peak.now closed.now) }
-    ensures { RoomsLooked used (arrays code.now first.now sender.now receiver.now positions.now conditions.now capacity.now oldest.now held.now peak.now closed.now) result }
+// Whether some process does: where none does, no ring can be relieved, and none is searched for. Public for the relief inside a run or a drive
+// (`schedule`).
+#[tactic(auto, using(crate::proofs::Looks::rooms_found, crate::proofs::Looks::rooms_on, crate::proofs::Looks::rooms_over))]
+pub fn some_wants_room(sound: &SoundLane) -> bool
+    ensures { result ≡ some_wants_room sound.now.lane 0 sound.now.lane.network.processes }
 {
-    let mut q = 0;
-    while q < used {
-        let wants = wants_room_at(
-            q, code, first, sender, receiver, positions, conditions, capacity, oldest, held, peak,
-            closed,
-        );
-        if wants {
+    for q in 0..sound.lane.network.processes {
+        if wants_room_at(sound, q) {
             return true;
         }
-        q += 1;
     }
     false
 }

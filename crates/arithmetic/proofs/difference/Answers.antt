@@ -1,18 +1,10 @@
--- `arithmetic::difference` meets its contract: the difference at 64 bits fits there, and is wrapped.
+-- `arithmetic::difference` meets its contract: the library's wrapping is the order's.
 -- Assumes nothing.
-use lib.IntN.{◌-ℤ◌}
-use Rattle.arithmetic.proofs.Operands.{operand, result, answer, difference_fits}
+use mathlib.Core.Path.{◌∙◌}
+use mir.Syntax.{w32}
+use Rattle.std.proofs.lemmas.Int.{wrapping_sub_is}
+use Rattle.arithmetic.proofs.WrapLaws.{wrap_is}
 use Rattle.arithmetic.proofs.difference.Goals as goal
 
-pub overflow_cast-x : goal.overflow_cast-x
-overflow_cast-x c = search operand
-
-pub overflow_cast-y : goal.overflow_cast-y
-overflow_cast-y c = search operand
-
-pub overflow_sub-x : goal.overflow_sub-x
-overflow_sub-x c = search (result ◌-ℤ◌, difference_fits)
-
 pub returns : goal.returns
-returns c =
-    answer ◌-ℤ◌ c.ranges.x c.ranges.y (difference_fits c.ranges.x c.ranges.y) c.wrap.ensures
+returns c = wrapping_sub_is w32 _ _ c.ranges.x c.ranges.y ∙ wrap_is _

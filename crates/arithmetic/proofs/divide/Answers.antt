@@ -1,93 +1,40 @@
--- `arithmetic::divide` meets its contract: cut toward zero, and one less where what is left over has not the divisor's sign.
+-- `arithmetic::divide` meets its contract: by cases on a divisor of zero and of −1; every quotient but that of the least number by −1 fits.
 -- Assumes nothing.
-use mathlib.Core.Path.{◌≡◌, sym, ap, ◌∙◌}
-use mathlib.Core.Bool.{true}
-use Prim.Native.Nat.{◌<◌}
+use mathlib.Core.Path.{◌≡◌, ap, ◌∙◌}
 use native.Mathlib.Omega.{arith}
-use lib.IntN.{ℤ, pos, negsuc, ◌+ℤ◌, ◌-ℤ◌, ◌*ℤ◌}
-use lib.Signed.{lt_z, quot_z, rem_z}
-use mir.Syntax.{w32, w64}
-use mir.Val.{SFits, to_z, of_z}
+use lib.IntN.{negsuc, neg_ℤ}
+use mir.Syntax.{w32}
+use mir.Val.{SFits, of_z}
 use mir.Facts.{to_z-of_z}
+use Rattle.std.proofs.lemmas.Int.{wrapping_neg_is}
+use Rattle.arithmetic.specs.Wrap.{wrap}
 use Rattle.arithmetic.specs.Quotient.{Division}
-use Rattle.arithmetic.proofs.Operands.{wide, operand, number, product_fits}
-use Rattle.arithmetic.proofs.QuotientLaws.{quotient_fits, remainder_fits}
-use Rattle.arithmetic.proofs.CutLaws.{cut_fits, cut_left_fits, cut_down, cut_up}
+use Rattle.arithmetic.proofs.Operands.{number}
+use Rattle.arithmetic.proofs.WrapLaws.{wrap_is, wrap_fits}
+use Rattle.arithmetic.proofs.QuotientLaws.{quotient_zero, quotient_one, quotient_by, quotient_fits, remainder_zero, remainder_one, remainder_by}
 use Rattle.arithmetic.proofs.divide.Goals as goal
 
--- the operands, what the machine makes of them, and the product that is tested
-module _ {x y : ℤ} (hx : SFits w32 x) (hy : SFits w32 y) (q : (y ≡ pos 0 → ⊥) × (x ≡ negsuc 2147483647 → y ≡ negsuc 0 → ⊥)) where
-  quotient_is : SFits w32 (quot_z x y)
-  quotient_is = cut_fits x y hx q.1
+pub round_down-requires : goal.round_down-requires
+round_down-requires c =
+    let h0 : of_z w32 c.args.y ≡ 0 → ⊥ = omega arith in
+    let h1 : of_z w32 c.args.y ≡ 4294967295 → ⊥ = omega arith in
+    rw (to_z-of_z c.ranges.x, to_z-of_z c.ranges.y) (λ e. h0 (ap (of_z w32) e), λ e d. h1 (ap (of_z w32) d))
 
-  remainder_is : SFits w32 (rem_z x y)
-  remainder_is = cut_left_fits x y hx
+pub returns-in-0 : goal.returns-in-0
+returns-in-0 c =
+    rw (number {n = 0} c.ranges.y (omega arith)) (record { quotient = rw quotient_zero; remainder = rw remainder_zero })
 
-  product_is : SFits w64 (rem_z x y *ℤ y)
-  product_is = product_fits remainder_is hy
+pub returns-in-minus1 : goal.returns-in-minus1
+returns-in-minus1 c =
+    let e : c.wrapping_neg.result ≡ wrap (neg_ℤ c.args.x) =
+    (rw (to_z-of_z c.ranges.x) at c.wrapping_neg.ensures) ∙ wrapping_neg_is w32 _ c.ranges.x ∙ wrap_is _ in
+    rw (number {n = 4294967295} c.ranges.y (omega arith), e, to_z-of_z (wrap_fits (neg_ℤ c.args.x)))
+    (record { quotient = rw quotient_one; remainder = rw remainder_one })
 
-  divides : (0 < of_z w32 y) × SFits w32 (quot_z (to_z w32 (of_z w32 x)) (to_z w32 (of_z w32 y)))
-  divides =
-      let e : of_z w32 y ≡ 0 → ⊥ = λ e. q.0 (number hy e) in
-      (omega (arith, e), rw (to_z-of_z hx, to_z-of_z hy) quotient_is)
-
-  -- the product, as the machine has it
-  abbrev product : ℤ
-  product = to_z w64 (of_z w64 (to_z w64 (of_z w64 (to_z w32 (of_z w32 (rem_z (to_z w32 (of_z w32 x)) (to_z w32 (of_z w32 y)))))) *ℤ to_z w64 (of_z w64 (to_z w32 (of_z w32 y)))))
-
-  product_right : product ≡ rem_z x y *ℤ y
-  product_right = rw (to_z-of_z hx, to_z-of_z hy, to_z-of_z remainder_is, to_z-of_z (wide remainder_is), to_z-of_z (wide hy)) (to_z-of_z product_is)
-
-  -- the product is below zero
-  module _ (t : lt_z product (pos 0) ≡ true) where
-    lower : Division x y (quot_z x y -ℤ pos 1) (rem_z x y +ℤ y)
-    lower = cut_up x y q.0 (ap (λ u. lt_z u (pos 0)) (sym product_right) ∙ t)
-
-    lower_quotient : SFits w32 (quot_z x y -ℤ pos 1)
-    lower_quotient = quotient_fits lower hx q.1
-
-    lower_remainder : SFits w32 (rem_z x y +ℤ y)
-    lower_remainder = remainder_fits lower hy
-
-pub nonzero_div-quotient : goal.nonzero_div-quotient
-nonzero_div-quotient c = divides c.ranges.x c.ranges.y c.requires
-
-pub nonzero_rem-remainder : goal.nonzero_rem-remainder
-nonzero_rem-remainder c = divides c.ranges.x c.ranges.y c.requires
-
-pub overflow_cast-remainder : goal.overflow_cast-remainder
-overflow_cast-remainder c = rw (to_z-of_z c.ranges.x, to_z-of_z c.ranges.y) (operand (remainder_is c.ranges.x c.ranges.y c.requires))
-
-pub overflow_cast-y : goal.overflow_cast-y
-overflow_cast-y c = operand c.ranges.y
-
-pub overflow_mul-remainder : goal.overflow_mul-remainder
-overflow_mul-remainder c =
-    let r : SFits w32 (rem_z c.args.x c.args.y) = remainder_is c.ranges.x c.ranges.y c.requires in
-    rw (to_z-of_z c.ranges.x, to_z-of_z c.ranges.y, to_z-of_z r, to_z-of_z (wide r), to_z-of_z (wide c.ranges.y)) (product_is c.ranges.x c.ranges.y c.requires)
-
-pub overflow_sub-below : goal.overflow_sub-below
-overflow_sub-below c =
-    rw (to_z-of_z c.ranges.x, to_z-of_z c.ranges.y, to_z-of_z (quotient_is c.ranges.x c.ranges.y c.requires))
-    (lower_quotient c.ranges.x c.ranges.y c.requires c.if-remainder-y-lt0.true)
-
-pub overflow_add-rest : goal.overflow_add-rest
-overflow_add-rest c =
-    rw (to_z-of_z c.ranges.x, to_z-of_z c.ranges.y, to_z-of_z (remainder_is c.ranges.x c.ranges.y c.requires))
-    (lower_remainder c.ranges.x c.ranges.y c.requires c.if-remainder-y-lt0.true)
-
-pub returns-then-remainder-y-lt0 : goal.returns-then-remainder-y-lt0
-returns-then-remainder-y-lt0 c =
-    rw (
-      to_z-of_z c.ranges.x,
-      to_z-of_z c.ranges.y,
-      to_z-of_z (quotient_is c.ranges.x c.ranges.y c.requires),
-      to_z-of_z (remainder_is c.ranges.x c.ranges.y c.requires),
-      to_z-of_z (lower_quotient c.ranges.x c.ranges.y c.requires c.if-remainder-y-lt0.true),
-      to_z-of_z (lower_remainder c.ranges.x c.ranges.y c.requires c.if-remainder-y-lt0.true),
-    ) (lower c.ranges.x c.ranges.y c.requires c.if-remainder-y-lt0.true)
-
-pub returns-else-remainder-y-lt0 : goal.returns-else-remainder-y-lt0
-returns-else-remainder-y-lt0 c =
-    rw (to_z-of_z c.ranges.x, to_z-of_z c.ranges.y, to_z-of_z (quotient_is c.ranges.x c.ranges.y c.requires), to_z-of_z (remainder_is c.ranges.x c.ranges.y c.requires))
-    (cut_down c.args.x c.args.y c.requires.0 (ap (λ u. lt_z u (pos 0)) (sym (product_right c.ranges.x c.ranges.y c.requires)) ∙ c.if-remainder-y-lt0.false))
+pub returns-in_default : goal.returns-in_default
+returns-in_default c =
+    let fitting : c.args.x ≡ negsuc 2147483647 → c.args.y ≡ negsuc 0 → ⊥ = λ e d. omega (arith, ap (of_z w32) d) in
+    let d : Division c.args.x c.args.y c.round_down.result.0 c.round_down.result.1 =
+    rw (← to_z-of_z c.ranges.x, ← to_z-of_z c.ranges.y) c.round_down.ensures in
+    let h : SFits w32 c.round_down.result.0 = quotient_fits d c.ranges.x fitting in
+    record { quotient = rw (quotient_by d h); remainder = rw (remainder_by d) }

@@ -1,18 +1,10 @@
--- `arithmetic::product` meets its contract: the product at 64 bits fits there, and is wrapped.
+-- `arithmetic::product` meets its contract: the library's wrapping is the order's.
 -- Assumes nothing.
-use lib.IntN.{◌*ℤ◌}
-use Rattle.arithmetic.proofs.Operands.{operand, result, answer, product_fits}
+use mathlib.Core.Path.{◌∙◌}
+use mir.Syntax.{w32}
+use Rattle.std.proofs.lemmas.Int.{wrapping_mul_is}
+use Rattle.arithmetic.proofs.WrapLaws.{wrap_is}
 use Rattle.arithmetic.proofs.product.Goals as goal
 
-pub overflow_cast-x : goal.overflow_cast-x
-overflow_cast-x c = search operand
-
-pub overflow_cast-y : goal.overflow_cast-y
-overflow_cast-y c = search operand
-
-pub overflow_mul-x : goal.overflow_mul-x
-overflow_mul-x c = search (result ◌*ℤ◌, product_fits)
-
 pub returns : goal.returns
-returns c =
-    answer ◌*ℤ◌ c.ranges.x c.ranges.y (product_fits c.ranges.x c.ranges.y) c.wrap.ensures
+returns c = wrapping_mul_is w32 _ _ c.ranges.x c.ranges.y ∙ wrap_is _

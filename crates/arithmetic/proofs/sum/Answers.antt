@@ -1,18 +1,10 @@
--- `arithmetic::sum` meets its contract: the sum at 64 bits fits there, and is wrapped.
+-- `arithmetic::sum` meets its contract: the library's wrapping is the order's.
 -- Assumes nothing.
-use lib.IntN.{◌+ℤ◌}
-use Rattle.arithmetic.proofs.Operands.{operand, result, answer, sum_fits}
+use mathlib.Core.Path.{◌∙◌}
+use mir.Syntax.{w32}
+use Rattle.std.proofs.lemmas.Int.{wrapping_add_is}
+use Rattle.arithmetic.proofs.WrapLaws.{wrap_is}
 use Rattle.arithmetic.proofs.sum.Goals as goal
 
-pub overflow_cast-x : goal.overflow_cast-x
-overflow_cast-x c = search operand
-
-pub overflow_cast-y : goal.overflow_cast-y
-overflow_cast-y c = search operand
-
-pub overflow_add-x : goal.overflow_add-x
-overflow_add-x c = search (result ◌+ℤ◌, sum_fits)
-
 pub returns : goal.returns
-returns c =
-    answer ◌+ℤ◌ c.ranges.x c.ranges.y (sum_fits c.ranges.x c.ranges.y) c.wrap.ensures
+returns c = wrapping_add_is w32 _ _ c.ranges.x c.ranges.y ∙ wrap_is _

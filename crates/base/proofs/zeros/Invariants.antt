@@ -7,6 +7,3 @@ use Rattle.base.proofs.zeros.Given as goal
 
 abbrev pub invariant-loop-i : goal.invariant-loop-i
 invariant-loop-i l = first_bad (is_zero l.s) l.i (l.e - l.i) ≡ first_bad (is_zero l.s) l.a (l.e - l.a)
-
-abbrev pub decreases-loop-i : goal.decreases-loop-i
-decreases-loop-i l = l.e - l.i

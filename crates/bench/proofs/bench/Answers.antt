@@ -13,15 +13,15 @@ returns-then-listing-lt65536 c = rw (lt-ltb _ 65536 c.if-listing-lt65536.true)
 
 pub play-requires : goal.play-requires
 play-requires c =
-    let read_as : read_of c.args.file.now ≡ record { answer = accepted; network = c.read-reading.result.network } = sym c.read-reading.ensures ∙ rw c.in-Accepted.is in
+    let read_as : read_of c.args.file.now ≡ record { answer = accepted; network = c.in-Ok.network } = sym c.read.ensures ∙ rw c.in-Ok.is in
     ((written_read c.args.file.now _ (λ k. (c.type_inv.file k).fits) read_as).0, c.if-listing-lt65536.false)
 
-pub returns-in-Refused : goal.returns-in-Refused
+pub returns-in-Err : goal.returns-in-Err
 unfolding bench_of
-returns-in-Refused c =
-    rw (le-ltb _ 65536 c.if-listing-lt65536.false, ← c.read-reading.ensures, c.in-Refused.is)
+returns-in-Err c =
+    rw (le-ltb _ 65536 c.if-listing-lt65536.false, ← c.read.ensures, c.in-Err.is)
 
-pub returns-in-Accepted : goal.returns-in-Accepted
+pub returns-in-Ok : goal.returns-in-Ok
 unfolding bench_of
-returns-in-Accepted c =
-    rw (le-ltb _ 65536 c.if-listing-lt65536.false, ← c.read-reading.ensures, c.in-Accepted.is) c.play.ensures
+returns-in-Ok c =
+    rw (le-ltb _ 65536 c.if-listing-lt65536.false, ← c.read.ensures, c.in-Ok.is) c.play.ensures

@@ -1,82 +1,53 @@
-use mathlib.Core.Path.{sym, ◌∙◌}
-use Prim.Native.Nat.{◌+◌, ◌<◌}
+-- `bench_feeds::feed_all` meets its contract.
+-- Assumes nothing.
+use mathlib.Core.Path.{◌≡◌, refl, sym, ap, ◌∙◌}
 use native.Mathlib.Omega.{arith}
-use Rattle.outer_ends.specs.Outer.{Onward}
-use Rattle.bench_feeds.proofs.Inlets.{feeds_begin, index, feeds_end, may_fill, inside_on, idle_on, filled_on, jump_on}
-use Rattle.bench_feeds.proofs.feed_all.Goals.{then-sender-c+then-not-idle, then-sender-c+else-not-idle, else-sender-c}
+use borrow.Author.Rules.{rules}
+use lib.ListN.{set, length-set}
+use Rattle.network.specs.declared.Network.{Network}
+use Rattle.lane.specs.State.{world}
+use Rattle.bench_rules.specs.Input.{left_at}
+use Rattle.bench_rules.specs.Feeding.{Inputs, inputs}
+use Rattle.bench_rules.specs.declared.Bench as code
+use Rattle.bench_rules.specs.Holding.{held_by, inputs_of}
+use Rattle.bench_feeds.proofs.Rising.{around_begins, around_on, feeds_idle, feeds_filled}
+use Rattle.bench_feeds.proofs.feed_all.Goals.{then-not-idle, else-not-idle}
 use Rattle.bench_feeds.proofs.feed_all.Goals as goal
 
 pub loop-c-init : goal.loop-c-init
-loop-c-init c = jump_on c.requires.1 c.requires.0.first (feeds_begin c.requires.1 _)
-
-pub bounds-sender-c : goal.bounds-sender-c
-bounds-sender-c c =
-    let place : c.loop-c.c < 32 = index c.requires.1 c.loop-c-test.true in
-    omega (arith, place, c.requires.1.sending)
-
-pub offset_bounds-next-c : goal.offset_bounds-next-c
-offset_bounds-next-c c =
-    let place : c.loop-c.c < 32 = index c.requires.1 c.loop-c-test.true in
-    omega (arith, place)
-
-pub bounds-next-c : goal.bounds-next-c
-bounds-next-c c =
-    let place : c.loop-c.c < 32 = index c.requires.1 c.loop-c-test.true in
-    omega (arith, place, c.loop-c.invariant.places)
-
-pub idle-requires : goal.idle-requires
-idle-requires c =
-    let place : c.loop-c.c < 32 = index c.requires.1 c.loop-c-test.true in
-    let s = c.requires.1 in
-    let t = c.loop-c.invariant.full.thirty_two in
-    record { low = place; receiving = s.receiving; sixteen = s.sixteen; room = t.room; number = t.number; shut = t.shut }
-
-pub bounds-receiver-c : goal.bounds-receiver-c
-bounds-receiver-c c =
-    let place : c.loop-c.c < 32 = index c.requires.1 c.loop-c-test.true in
-    omega (arith, place, c.requires.1.receiving)
-
-pub ended_at-gone-requires : goal.ended_at-gone-requires
-ended_at-gone-requires c = c.requires.1.sixteen
-
-pub fill_in-requires : goal.fill_in-requires
-fill_in-requires c = may_fill c.requires.1 c.loop-c.invariant c.loop-c-test.true
-
-pub offset_bounds-next-c-then-not-idle : goal.offset_bounds-next-c-then-not-idle
-offset_bounds-next-c-then-not-idle c =
-    let place : c.loop-c.c < 32 = index c.requires.1 c.loop-c-test.true in
-    omega (arith, place)
-
-pub bounds-next-c-then-not-idle : goal.bounds-next-c-then-not-idle
-bounds-next-c-then-not-idle c =
-    let place : c.loop-c.c < 32 = index c.requires.1 c.loop-c-test.true in
-    omega (arith, place, c.loop-c.invariant.places)
-
-pub bounds-after-c : goal.bounds-after-c
-bounds-after-c c =
-    let place : c.loop-c.c < 32 = index c.requires.1 c.loop-c-test.true in
-    omega (arith, place)
-
-pub loop-c-smaller : goal.loop-c-smaller
-loop-c-smaller c =
-    let onward : Onward c.args.sender.now c.args.channels (c.loop-c.c + 1) c.wide-c.result = rw c.wide-c.ensures (c.requires.0.next c.loop-c.c c.loop-c-test.true) in
-    omega (arith, c.loop-c-test.true, (onward).from, (onward).within)
+loop-c-init c =
+    let b = c.args.bench.now in
+    record { around = around_begins (inputs_of (held_by b)) b.from_outside.first; given = refl; long = search rules }
 
 pub loop-c-preserved : goal.loop-c-preserved
 loop-c-preserved c =
-    let onward : Onward c.args.sender.now c.args.channels (c.loop-c.c + 1) c.wide-c.result = rw c.wide-c.ensures (c.requires.0.next c.loop-c.c c.loop-c-test.true) in
-    let s = c.requires.1 in
-    let p = c.loop-c.invariant in
+    let l = c.loop-c in
+    let b = l.bench in
+    let a = l.invariant.around in
     let h = c.loop-c-test.true in
-    jump_on s onward
-    (elim c.if-sender-c.branch [
-      | then-sender-c+then-not-idle w ↦ rw (w.next-is, w.held-is, w.peak-is, w.closed-is, w.cells-is) (filled_on s p h w.if-sender-c.true w.ended_at-gone.ensures w.fill_in.ensures)
-      | then-sender-c+else-not-idle w ↦ rw (w.next-is, w.held-is, w.peak-is, w.closed-is, w.cells-is) (idle_on s p h w.if-sender-c.true (λ oldest peak. sym (w.idle.ensures oldest peak) ∙ w.if-not-idle.false))
-      | else-sender-c w ↦ rw (w.next-is, w.held-is, w.peak-is, w.closed-is, w.cells-is) (inside_on s p h w.if-sender-c.false)
-    ])
-
-pub shape_of-cells : goal.shape_of-cells
-shape_of-cells c = c.loop-c.invariant.full.long ∙ sym c.requires.1.full.long
-
-pub returns : goal.returns
-returns c = feeds_end c.requires.1 c.loop-c.invariant c.loop-c-test.false
+    let w = world b.sound.lane b.cells in
+    elim c.if-not-idle.branch [
+      | then-not-idle v ↦
+          let e : inputs_of (held_by c.if-not-idle.bench) ≡ inputs (left_at b.input.now (set b.next l.c v.fill_in.result)) (world v.fill_in.new.sound.lane v.fill_in.new.cells) =
+          ap (λ (x : code.Bench). inputs_of (held_by x)) v.bench-is in
+          record {
+            around =
+                around_on (inputs_of (held_by c.if-not-idle.bench)) a h
+                (ap (λ (i : Inputs). i.world.lane.network.channels) e ∙ ap (λ (n : Network). n.channels) v.fill_in.ensures.1 ∙ a.channels)
+                (feeds_filled b.input.now b.next w (omega (arith, h, a.channels, b.sound.few_channels)) (a.outer h) v.fill_in.result l.invariant.long v.fill_in.ensures.0 ∙ sym e)
+                (λ s. rw c.from-c.ensures (c.if-not-idle.bench.from_outside.next l.c (omega (arith, h, s))));
+            given = rw v.bench-is l.invariant.given;
+            long = rw v.bench-is (length-set b.next l.c v.fill_in.result ∙ l.invariant.long);
+          }
+      | else-not-idle v ↦
+          let e : inputs_of (held_by c.if-not-idle.bench) ≡ inputs_of (held_by b) = ap (λ (x : code.Bench). inputs_of (held_by x)) v.bench-is in
+          record {
+            around =
+                around_on (inputs_of (held_by c.if-not-idle.bench)) a h
+                (ap (λ (i : Inputs). i.world.lane.network.channels) e ∙ a.channels)
+                (feeds_idle b.input.now b.next w (omega (arith, h, a.channels, b.sound.few_channels)) (a.outer h) (sym (c.idle.ensures b.cells) ∙ v.if-not-idle.false) ∙ sym e)
+                (λ s. rw c.from-c.ensures (c.if-not-idle.bench.from_outside.next l.c (omega (arith, h, s))));
+            given = rw v.bench-is l.invariant.given;
+            long = rw v.bench-is l.invariant.long;
+          }
+    ]

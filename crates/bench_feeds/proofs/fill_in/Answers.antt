@@ -1,42 +1,51 @@
+-- `bench_feeds::fill_in` meets its contract.
+-- Assumes nothing.
 use mathlib.Core.Path.{sym, ◌∙◌}
 use native.Mathlib.Omega.{arith}
 use mir.Facts.{to_z-of_z}
 use mir.Syntax.{w32}
-use Rattle.lent_calls.specs.OneChannel.{FedIn}
-use Rattle.bench_rules.specs.Input.{value_at}
-use Rattle.bench_feeds.proofs.Inlets.{fill_begins, fill_passes, fill_takes, fill_stops, fill_ends}
-use Rattle.bench_feeds.proofs.fill_in.Goals.{then-channel_at-c+in_default, else-channel_at-c}
+use Rattle.bench_feeds.proofs.Filling.{inlet_at, passed_over, taken_in, turned_down, spent}
+use Rattle.bench_feeds.proofs.fill_in.Goals.{else-channel_at-c-via-then-channel_at-c+else-is_err, else-channel_at-c-via-else-channel_at-c}
 use Rattle.bench_feeds.proofs.fill_in.Goals as goal
 
-pub loop-i-init : goal.loop-i-init
-loop-i-init c = fill_begins _ _ _ _ _ c.requires
-
-pub feed_in-answer-requires : goal.feed_in-answer-requires
-feed_in-answer-requires c = c.loop-i.invariant.feedable
-
-pub shape_of-cells-in-Refused : goal.shape_of-cells-in-Refused
-shape_of-cells-in-Refused c = c.feed_in-answer.ensures.long ∙ sym c.requires.long
-
-pub returns-in-Refused : goal.returns-in-Refused
-returns-in-Refused c =
-    let fed_in : let a = c.args in FedIn a.c (value_at a.input.now c.loop-i.i) a.gone a.capacity.now a.oldest.now c.loop-i.held c.loop-i.peak a.closed.now c.loop-i.cells c.feed_in-answer.result c.feed_in-answer.new.held c.feed_in-answer.new.peak c.feed_in-answer.new.cells = (rw (to_z-of_z {w = w32} (record { sfits = c.value_at-v.type_inv }), c.value_at-v.ensures) at c.feed_in-answer.ensures) in
-    fill_stops c.loop-i.invariant (omega (arith, c.loop-i-test.true)) (sym c.channel_at.ensures ∙ c.if-channel_at-c.true) fed_in c.in-Refused.is
+pub returns-then-is_err : goal.returns-then-is_err
+returns-then-is_err c =
+    let l = c.loop-i in
+    let inlet = inlet_at c.args.sound.now.lane l.sound.sound l.invariant.network l.invariant.long c.requires in (
+      l.invariant.rest
+          ∙ turned_down c.args.input.now c.args.c l.i _ c.feed_in.result (sym c.is_err.ensures.value ∙ c.if-is_err.true) inlet (omega arith)
+          (sym c.channel_at.ensures ∙ c.if-channel_at-c.true)
+          (rw (to_z-of_z {w = w32} (record { sfits = c.value_at.type_inv }), c.value_at.ensures) at c.feed_in.ensures.0),
+      c.feed_in.ensures.1 ∙ l.invariant.network,
+    )
 
 pub loop-i-preserved : goal.loop-i-preserved
 loop-i-preserved c =
-    elim c.if-channel_at-c.branch [
-      | then-channel_at-c+in_default w ↦
-          let fed_in : let a = c.args in FedIn a.c (value_at a.input.now c.loop-i.i) a.gone a.capacity.now a.oldest.now c.loop-i.held c.loop-i.peak a.closed.now c.loop-i.cells w.feed_in-answer.result w.feed_in-answer.new.held w.feed_in-answer.new.peak w.feed_in-answer.new.cells = (rw (to_z-of_z {w = w32} (record { sfits = w.value_at-v.type_inv }), w.value_at-v.ensures) at w.feed_in-answer.ensures) in
-          rw (w.held-is, w.peak-is, w.cells-is) (fill_takes c.loop-i.invariant (omega (arith, c.loop-i-test.true)) (sym c.channel_at.ensures ∙ w.if-channel_at-c.true) fed_in w.in_default.is)
-      | else-channel_at-c w ↦
-          rw (w.held-is, w.peak-is, w.cells-is) (fill_passes c.loop-i.invariant (omega (arith, c.loop-i-test.true)) (λ e. w.if-channel_at-c.false (c.channel_at.ensures ∙ e)))
+    let l = c.loop-i in
+    let inlet = inlet_at c.args.sound.now.lane l.sound.sound l.invariant.network l.invariant.long c.requires in
+    elim c.else-channel_at-c.branch [
+      | else-channel_at-c-via-then-channel_at-c+else-is_err w ↦
+          rw (w.sound-is, w.cells-is) (record {
+            rest =
+                l.invariant.rest
+                ∙ taken_in c.args.input.now c.args.c l.i _ w.feed_in.result (sym w.is_err.ensures.value ∙ w.if-is_err.false) inlet (omega arith)
+                (sym c.channel_at.ensures ∙ w.if-channel_at-c.true)
+                (rw (to_z-of_z {w = w32} (record { sfits = w.value_at.type_inv }), w.value_at.ensures) at w.feed_in.ensures.0);
+            network = w.feed_in.ensures.1 ∙ l.invariant.network;
+            long = w.feed_in.array_long;
+          })
+      | else-channel_at-c-via-else-channel_at-c w ↦
+          rw (w.sound-is, w.cells-is) (record {
+            rest = l.invariant.rest ∙ passed_over c.args.input.now c.args.c l.i _ (omega arith) (λ e. w.if-channel_at-c.false (c.channel_at.ensures ∙ e));
+            network = l.invariant.network;
+            long = l.invariant.long;
+          })
     ]
 
-pub close_in-requires : goal.close_in-requires
-close_in-requires c = (c.loop-i.invariant.feedable.low, c.loop-i.invariant.feedable.thirty_two)
-
-pub shape_of-cells : goal.shape_of-cells
-shape_of-cells c = c.loop-i.invariant.feedable.long ∙ sym c.requires.long
-
 pub returns : goal.returns
-returns c = fill_ends c.loop-i.invariant (omega (arith, c.loop-i-test.false)) c.close_in.ensures
+returns c =
+    let l = c.loop-i in
+    let inlet = inlet_at c.args.sound.now.lane l.sound.sound l.invariant.network l.invariant.long c.requires in (
+      l.invariant.rest ∙ spent c.args.input.now c.args.c l.i _ _ inlet (omega arith) (omega arith) (c.close_in.ensures.0 l.cells),
+      c.close_in.ensures.1 ∙ l.invariant.network,
+    )

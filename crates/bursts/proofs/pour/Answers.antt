@@ -1,41 +1,35 @@
-use mathlib.Core.Path.{◌≡◌, refl, sym, ◌∙◌}
-use mathlib.Core.Bool.{false}
+-- `bursts::pour` meets its contract: a value that is refused, and one that goes in.
+-- Assumes nothing.
+use mathlib.Core.Path.{sym, ◌∙◌}
 use native.Mathlib.Omega.{arith}
 use lib.IntN.{pos}
 use lib.ListN.{get_or}
+use mir.Facts.{to_z-of_z}
 use mir.Syntax.{w32}
 use mir.Val.{SFits}
-use mir.Facts.{to_z-of_z}
-use Rattle.process.specs.Execute.{full}
-use Rattle.bursts.proofs.Pours.{flows_all, flows_full, flows_room, flows_gone, flows_put}
+use Rattle.lane.specs.State.{world}
+use Rattle.bursts.proofs.Pours.{one_in, next_refused}
 use Rattle.bursts.proofs.pour.Goals as goal
 
-pub loop-k-init : goal.loop-k-init
-loop-k-init c = record { within = omega arith; long = c.requires.1; roomy = c.requires.2; rest = refl }
+pub returns-in-Err : goal.returns-in-Err
+returns-in-Err c =
+    let i = c.loop-v.invariant in
+    let fits : SFits w32 (get_or c.args.values.now c.loop-v.v-index (pos 0)) = record { sfits = omega arith } in
+    let refused = rw (to_z-of_z fits, ← i.counted) at c.in-Err.ensures.0 in
+    sym (next_refused c.args.c c.args.values.now c.loop-v.fed (world c.loop-v.sound.lane c.loop-v.cells) c.loop-v.sound.sound (rw i.network c.requires.0) (rw i.network c.requires.1) i.long (omega arith) refused)
+    ∙ i.rest
 
-pub bounds-cells-slot : goal.bounds-cells-slot
-bounds-cells-slot c = omega (arith, c.slot.ensures.1, c.loop-k.invariant.long)
-
-pub put-h-requires : goal.put-h-requires
-put-h-requires c =
-    let roomy : full c.args.gone c.loop-k.h ≡ false = sym c.is_full.ensures ∙ c.if-is_full.false in
-    flows_room _ _ _ _ _ _ _ _ c.loop-k.invariant c.loop-k-test.true roomy c.if-not-gone.true
-
-pub loop-k-preserved-then-not-gone : goal.loop-k-preserved-then-not-gone
-loop-k-preserved-then-not-gone c =
-    let roomy : full c.args.gone c.loop-k.h ≡ false = sym c.is_full.ensures ∙ c.if-is_full.false in
-    let f : SFits w32 (get_or c.args.values.now c.loop-k.k (pos 0)) = record { sfits = omega arith } in
-    rw (c.put-h.ensures, c.slot.ensures.0, c.counted-n.ensures, to_z-of_z f)
-    (flows_put _ _ _ _ _ _ _ _ c.loop-k.invariant c.loop-k-test.true roomy c.if-not-gone.true)
-
-pub loop-k-preserved : goal.loop-k-preserved
-loop-k-preserved c =
-    let roomy : full c.args.gone c.loop-k.h ≡ false = sym c.is_full.ensures ∙ c.if-is_full.false in
-    rw c.counted-n.ensures
-    (flows_gone _ _ _ _ _ _ _ _ c.loop-k.invariant c.loop-k-test.true roomy c.if-not-gone.false)
-
-pub returns-after-loop-k : goal.returns-after-loop-k
-returns-after-loop-k c = flows_all _ _ _ _ _ _ _ _ c.loop-k.invariant c.loop-k-test.false
-
-pub returns-then-is_full : goal.returns-then-is_full
-returns-then-is_full c = flows_full _ _ _ _ _ _ _ _ c.loop-k.invariant c.loop-k-test.true (sym c.is_full.ensures ∙ c.if-is_full.true)
+pub loop-v-preserved : goal.loop-v-preserved
+loop-v-preserved c =
+    let i = c.loop-v.invariant in
+    let fits : SFits w32 (get_or c.args.values.now c.loop-v.v-index (pos 0)) = record { sfits = omega arith } in
+    let taken = rw (to_z-of_z fits, ← i.counted) at c.in_default.ensures.0 in
+    record {
+      long = c.feed_to.array_long;
+      counted = omega arith;
+      network = c.in_default.ensures.1 ∙ i.network;
+      processes = c.in_default.ensures.2 ∙ i.processes;
+      rest =
+          sym (one_in c.args.c c.args.values.now c.loop-v.fed (world c.loop-v.sound.lane c.loop-v.cells) c.loop-v.sound.sound (rw i.network c.requires.0) (rw i.network c.requires.1) i.long (omega arith) taken)
+          ∙ i.rest;
+    }

@@ -1,29 +1,34 @@
--- `drives::rounds` meets its contract: the arrays into which the lane is taken apart are the lane, and so are those that are put together.
+-- `drives::rounds` meets its contract.
 -- Assumes nothing.
+use mathlib.Core.Path.{◌∙◌}
 use native.Mathlib.Omega.{arith}
-use mathlib.Core.Path.{◌≡◌, refl}
-use mathlib.Core.Bool.{true}
-use borrow.Author.Tests.{eqb-true, not-false}
-use lib.ListN.{length}
-use Rattle.lane.specs.Sound.{sound_of}
-use Rattle.lane_parts.specs.Parts.{lane_of, Parts, parts, Full}
-use Rattle.lane_parts.proofs.Lanes.{whole}
-use Rattle.schedule.proofs.Lent.{playable}
-use Rattle.drives.proofs.Lent.{rounds_done}
+use Rattle.lane.specs.State.{world}
+use Rattle.drives.proofs.Rule.{one_more_round, last_round, no_round}
+use Rattle.drives.proofs.RoundLaws.{one_more, bool_is}
 use Rattle.drives.proofs.rounds.Goals as goal
 
-pub rounds_in-r-requires : goal.rounds_in-r-requires
-rounds_in-r-requires c =
-    let parted : Parts = let p = c.part_processes.new in let h = c.part_channels.new in parts c.args.lane.registers p.positions p.conditions p.moves h.capacity h.oldest h.held h.peak h.closed in
-    let full : Full parted = record { file = omega arith; sixteen = c.part_processes.ensures.1; thirty_two = c.part_channels.ensures.1 } in
-    let same : lane_of c.args.lane.network c.args.lane.accepted parted ≡ c.args.lane = whole c.args.lane parted refl c.part_processes.ensures.0 c.part_channels.ensures.0 in
-    let sound : sound_of c.args.lane ≡ true = not-false _ c.requires.1 in
-    let long : length c.args.cells.now ≡ 8192 = eqb-true _ _ (not-false _ c.requires.0) in
-    (playable same sound full long, c.requires.2)
+pub returns-in-Break : goal.returns-in-Break
+returns-in-Break c =
+    let l = c.loop-made in
+    last_round _ c.args.most l.made l.enlarged (world l.sound.lane l.cells) (world c.round-moved.new.sound.lane c.round-moved.new.cells) c.round-moved.result c.loop-made-test.true
+    c.round-moved.ensures.round c.in-Break.end _ (rw c.in-Break.is at c.relieved_after.ensures.rule c.round-moved.new.cells) 0
+    ∙ l.invariant.3 0
+
+pub loop-made-preserved : goal.loop-made-preserved
+loop-made-preserved c =
+    let l = c.loop-made in
+    let b = one_more c.in-Continue.grew in (
+      c.relieved_after.ensures.network ∙ c.round-moved.ensures.network ∙ l.invariant.0,
+      rw c.from-enlarged.ensures (omega (arith, b, l.invariant.1)),
+      omega (arith, c.loop-made-test.true),
+      λ m.
+          rw (c.from-enlarged.ensures, bool_is c.in-Continue.grew)
+          (one_more_round _ c.args.most l.made l.enlarged (world l.sound.lane l.cells) (world c.round-moved.new.sound.lane c.round-moved.new.cells) c.round-moved.result c.loop-made-test.true
+          c.round-moved.ensures.round c.in-Continue.grew _ (rw c.in-Continue.is at c.relieved_after.ensures.rule c.round-moved.new.cells) m 0)
+          ∙ l.invariant.3 0,
+    )
 
 pub returns : goal.returns
 returns c =
-    let parted : Parts = let p = c.part_processes.new in let h = c.part_channels.new in parts c.args.lane.registers p.positions p.conditions p.moves h.capacity h.oldest h.held h.peak h.closed in
-    let same : lane_of c.args.lane.network c.args.lane.accepted parted ≡ c.args.lane = whole c.args.lane parted refl c.part_processes.ensures.0 c.part_channels.ensures.0 in
-    let sound : sound_of c.args.lane ≡ true = not-false _ c.requires.1 in
-    rw (c.join_processes-standings.ensures, c.join_channels-joined.ensures) (rounds_done same sound c.rounds_in-r.ensures)
+    let l = c.loop-made in
+    no_round _ c.args.most l.made 0 l.enlarged (world l.sound.lane l.cells) c.loop-made-test.false l.invariant.2 ∙ l.invariant.3 0

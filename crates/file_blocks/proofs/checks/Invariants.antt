@@ -8,6 +8,3 @@ use Rattle.file_blocks.proofs.checks.Given as goal
 
 abbrev pub invariant-loop-k : goal.invariant-loop-k
 invariant-loop-k l = first_bad (check_right l.s) l.k (l.blocks - l.k) ≡ checks l.s
-
-abbrev pub decreases-loop-k : goal.decreases-loop-k
-decreases-loop-k l = l.blocks - l.k

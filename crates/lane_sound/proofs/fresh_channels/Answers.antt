@@ -1,18 +1,12 @@
-use mathlib.Core.Path.{◌≡◌, refl}
-use native.Mathlib.Omega.{arith}
-use Rattle.base.proofs.Lists.{filled_none, filled_more, filled_all}
+-- `lane_sound::fresh_channels` meets its contract: each channel is the fresh one of its capacity.
+-- Assumes nothing.
+use Rattle.std.proofs.Common.{rules}
+use Rattle.process.specs.Channels.{no_channel}
+use Rattle.base.proofs.Lists.{table_is}
+use Rattle.lane.specs.State.{fresh_channel}
 use Rattle.lane_sound.proofs.fresh_channels.Goals as goal
-
-pub loop-c-init : goal.loop-c-init
-loop-c-init c = (filled_none _ _ _, omega arith)
-
-pub loop-c-preserved : goal.loop-c-preserved
-loop-c-preserved c =
-    let l = c.loop-c in
-    (filled_more _ _ _ _ _ _ (omega (arith, l.invariant.0.long)) c.fresh_channel.ensures l.invariant.0, omega arith)
 
 pub returns : goal.returns
 returns c =
-    let l = c.loop-c in
-    let e : l.c ≡ 32 = omega (arith, l.invariant.1, c.loop-c-test.false) in
-    filled_all _ _ _ 32 l.channels refl (rw e at l.invariant.0)
+    table_is (fresh_channel c.args.network.now) 32 no_channel c.map.result c.map.ensures.items.long
+    (λ k h. let m = c.map.ensures.items.at k 0 no_channel h in search (rules, m))

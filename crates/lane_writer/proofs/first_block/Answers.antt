@@ -13,7 +13,7 @@ unfolding first_block
 returns c =
     let a = c.args in
     let pre = c.requires in
-    let n = a.net in
+    let n = a.net.now in
     put_checked (first_block n) a.buffer.now c.zeros.new.buffer c.seal.new.buffer 0 (length_first n) (omega (arith, pre.0))
     (put_four (header_of n) (joined (slot_of n) 0 16) (joined (record_of n) 0 32) (replicate 310 0) a.buffer.now
     c.header.new.buffer c.slots.new.buffer c.records.new.buffer c.zeros.new.buffer

@@ -1,6 +1,6 @@
 -- `lane_writer::write` meets its contract, answer by answer.
 -- Assumes nothing.
-use mathlib.Core.Path.{◌≡◌, refl, sym, ◌∙◌}
+use mathlib.Core.Path.{◌≡◌, sym, ◌∙◌}
 use mathlib.Core.Bool.{true, false}
 use Prim.Native.Nat.{◌≤◌, ◌<◌}
 use native.Mathlib.Omega.{arith}
@@ -50,7 +50,7 @@ overflow_add-blocks c =
     let net : Network = c.args.net in
     let holds : passes net ≡ true = sym c.passes.ensures ∙ c.if-not-passes.false in
     let rules : Passed net = passed net holds in
-    let told : c.total.result ≡ total net = c.total.ensures net refl refl refl in
+    let told : c.total.result ≡ total net = c.total.ensures in
     let small : c.total.result ≤ 1016 = let r = rules in omega (arith, told) in
     omega (arith, small)
 
@@ -59,7 +59,7 @@ overflow_mul-size c =
     let net : Network = c.args.net in
     let holds : passes net ≡ true = sym c.passes.ensures ∙ c.if-not-passes.false in
     let rules : Passed net = passed net holds in
-    let told : c.total.result ≡ total net = c.total.ensures net refl refl refl in
+    let told : c.total.result ≡ total net = c.total.ensures in
     let small : c.total.result ≤ 1016 = let r = rules in omega (arith, told) in
     omega (arith, small)
 
@@ -68,7 +68,7 @@ unfolding write_of
 returns-then-room-size c =
     let net : Network = c.args.net in
     let holds : passes net ≡ true = sym c.passes.ensures ∙ c.if-not-passes.false in
-    let told : c.total.result ≡ total net = c.total.ensures net refl refl refl in
+    let told : c.total.result ≡ total net = c.total.ensures in
     let b = c.args.buffer.now in
     let n = net in
     let short : length b < size_of n = omega (arith, told) in
@@ -79,7 +79,7 @@ overflow_cast-blocks c =
     let net : Network = c.args.net in
     let holds : passes net ≡ true = sym c.passes.ensures ∙ c.if-not-passes.false in
     let rules : Passed net = passed net holds in
-    let told : c.total.result ≡ total net = c.total.ensures net refl refl refl in
+    let told : c.total.result ≡ total net = c.total.ensures in
     let small : c.total.result ≤ 1016 = let r = rules in omega (arith, told) in
     omega (arith, small)
 
@@ -88,7 +88,7 @@ file-requires c =
     let net : Network = c.args.net in
     let holds : passes net ≡ true = sym c.passes.ensures ∙ c.if-not-passes.false in
     let rules : Passed net = passed net holds in
-    let told : c.total.result ≡ total net = c.total.ensures net refl refl refl in
+    let told : c.total.result ≡ total net = c.total.ensures in
     let r = rules in omega (arith, told)
 
 pub returns : goal.returns
@@ -96,7 +96,7 @@ unfolding write_of
 returns c =
     let net : Network = c.args.net in
     let holds : passes net ≡ true = sym c.passes.ensures ∙ c.if-not-passes.false in
-    let told : c.total.result ≡ total net = c.total.ensures net refl refl refl in
+    let told : c.total.result ≡ total net = c.total.ensures in
     let b = c.args.buffer.now in
     let n = net in
     let enough : size_of n ≤ length b = omega (arith, told) in

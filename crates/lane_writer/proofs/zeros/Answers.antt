@@ -1,27 +1,16 @@
-use mathlib.Core.Path.{◌≡◌, refl, ap, ◌∙◌}
-use Prim.Native.Nat.{ℕ}
+-- `lane_writer::zeros` meets its contract: a part of the buffer, written at once.
+-- Assumes nothing.
+use mathlib.Core.Path.{◌≡◌, ap, ◌∙◌}
+use Prim.Native.Nat.{ℕ, ◌+◌, ◌-◌}
 use native.Mathlib.Omega.{arith}
-use borrow.Author.Rules.{rules}
-use lib.ListN.{replicate, length-set}
-use Rattle.lane_writer.specs.Put.{put}
-use Rattle.lane_writer.proofs.Stores.{put_none, zeros_more}
+use lib.ListN.{replicate, length-replicate}
+use Rattle.lane_file.proofs.Joined.{length_part}
+use Rattle.lane_writer.proofs.Stores.{put_slice}
 use Rattle.lane_writer.proofs.zeros.Goals as goal
-
-pub loop-i-init : goal.loop-i-init
-loop-i-init c = (search rules, refl, put_none c.args.buffer.now c.args.at)
-
-pub loop-i-preserved : goal.loop-i-preserved
-loop-i-preserved c =
-    let l = c.loop-i in
-    let a = c.args in
-    (search rules, simp length-set l.invariant.1, zeros_more a.buffer.now l.buffer a.at l.i l.invariant.2)
-
-pub shape_of-buffer : goal.shape_of-buffer
-shape_of-buffer c = c.loop-i.invariant.1
 
 pub returns : goal.returns
 returns c =
-    let l = c.loop-i in
     let a = c.args in
-    let q : l.i ≡ a.n = omega arith in
-    l.invariant.2 ∙ ap (λ (k : ℕ). put a.buffer.now a.at (replicate k 0)) q
+    let e : a.at + a.n - a.at ≡ a.n = omega arith in
+    let f : c.fill.new.self ≡ replicate a.n 0 = c.fill.ensures.after (λ y h. h) ∙ ap (λ (k : ℕ). replicate k 0) (rw e (length_part a.buffer.now a.at a.n (omega arith))) in
+    rw (e, f) (put_slice (replicate a.n 0) a.buffer.now a.at a.n (length-replicate a.n 0) (omega arith))

@@ -8,6 +8,3 @@ use Rattle.network.proofs.instructions.Given as goal
 
 abbrev pub invariant-loop-p : goal.invariant-loop-p
 invariant-loop-p l = in_turn (code_of l.net) l.p (l.net.processes - l.p) ≡ instructions l.net
-
-abbrev pub decreases-loop-p : goal.decreases-loop-p
-decreases-loop-p l = l.net.processes - l.p

@@ -8,6 +8,3 @@ use Rattle.network.proofs.records.Given as goal
 
 abbrev pub invariant-loop-c : goal.invariant-loop-c
 invariant-loop-c l = first_bad (record_right l.net) l.c (l.net.channels - l.c) ≡ records l.net
-
-abbrev pub decreases-loop-c : goal.decreases-loop-c
-decreases-loop-c l = l.net.channels - l.c

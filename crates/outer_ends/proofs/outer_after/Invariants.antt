@@ -5,6 +5,3 @@ use Rattle.outer_ends.proofs.outer_after.Given as goal
 
 abbrev pub invariant-loop-c : goal.invariant-loop-c
 invariant-loop-c l = Down l.ends l.initial.after l.channels l.c l.next l.after
-
-abbrev pub decreases-loop-c : goal.decreases-loop-c
-decreases-loop-c l = l.c

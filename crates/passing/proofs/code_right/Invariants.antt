@@ -2,7 +2,7 @@
 -- by the opcode is that of process p, if it had as many instructions as the process before.
 -- Assumes nothing.
 use mathlib.Core.Path.{◌≡◌}
-use Prim.Native.Nat.{◌-◌, ◌≤◌}
+use Prim.Native.Nat.{◌≤◌}
 use Rattle.base.specs.Lists.{table}
 use Rattle.instruction_sums.specs.Sums.{flags}
 use Rattle.instruction_words.specs.Words.{opcode_word}
@@ -12,10 +12,5 @@ use Rattle.passing.proofs.code_right.Given as goal
 
 abbrev pub invariant-loop-p : goal.invariant-loop-p
 invariant-loop-p l =
-    (l.p ≤ l.processes) × (l.before ≤ 256) × (l.opcodes ≡ table 256 (opcode_word l.before l.p))
-    × Tells flags (all_right l.code l.first l.count l.receiver l.sender l.channels) 0 l.p l.all
-    × Tells 247 (last_right l.code l.first l.count) 0 l.p l.last
-
-abbrev pub decreases-loop-p : goal.decreases-loop-p
-decreases-loop-p l =
-    l.processes - l.p
+    (l.before ≤ 256) × (l.opcodes ≡ table 256 (opcode_word l.before l.p)) × Tells flags (all_right l.net) 0 l.p l.all
+    × Tells 247 (last_right l.net) 0 l.p l.last

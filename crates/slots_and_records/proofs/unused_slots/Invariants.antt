@@ -1,15 +1,10 @@
--- `slots_and_records::unused_slots` meets its contract. The loop's invariant, of the network that the slots lent make: the slots that are left give the answer of
--- all of them.
+-- `slots_and_records::unused_slots` meets its contract. The loop's invariant: the slots that are left give the answer of all of them.
 -- Assumes nothing.
 use mathlib.Core.Path.{◌≡◌}
 use Prim.Native.Nat.{◌-◌}
 use Rattle.base.specs.Tests.{first_bad}
 use Rattle.network.specs.Rules.{slot_zero, unused_slots}
-use Rattle.network.proofs.Parts.{of_slots}
 use Rattle.slots_and_records.proofs.unused_slots.Given as goal
 
 abbrev pub invariant-loop-p : goal.invariant-loop-p
-invariant-loop-p l = first_bad (slot_zero (of_slots l.first l.count l.processes)) l.p (16 - l.p) ≡ unused_slots (of_slots l.first l.count l.processes)
-
-abbrev pub decreases-loop-p : goal.decreases-loop-p
-decreases-loop-p l = 16 - l.p
+invariant-loop-p l = first_bad (slot_zero l.net) l.p (16 - l.p) ≡ unused_slots l.net

@@ -7,6 +7,7 @@ use native.Mathlib.Nat.{mod-eq_of_lt}
 use borrow.Author.Rules.{rules}
 use lib.Bits.{bit_and, bit_or, and_comm, and_mask}
 use lib.Dec.{eqb}
+use mir.Val.{bool_byte}
 use Rattle.flags.proofs.Clean.{or_zero}
 use Rattle.sound_parts.proofs.left.Goals as goal
 
@@ -28,4 +29,8 @@ left_zero from flag to held s t closed p o q h =
 pub returns : goal.returns
 returns c s t p q =
     let a = c.args in
-    left_zero a.from c.«open».result a.to a.held s t a.closed p c.«open».ensures q (search rules)
+    left_zero a.from c.from.result a.to a.channel.now.held s t a.channel.now.closed p (c.from.ensures ∙ flag a.channel.now.closed) q (search rules)
+  where
+    flag : (closed : Bool) → bool_byte (not closed) ≡ cond closed 0 1
+    flag true = refl
+    flag false = refl

@@ -2,31 +2,30 @@
 -- Assumes nothing.
 use mathlib.Core.Path.{◌≡◌, refl, sym}
 use mathlib.Core.Bool.{Bool, true, false, ◌&&◌, and-false, false≢true}
-use mathlib.Core.List.{List}
-use Prim.Native.Nat.{ℕ, ◌+◌, ◌-◌, ◌≤◌}
+use Prim.Native.Nat.{ℕ, ◌+◌}
 use native.Mathlib.Nat.{zero-add}
 use native.Mathlib.Omega.{arith}
 use borrow.Author.Tests.{leb-true, le-leb}
 use lib.Bits.{bit_or}
 use lib.Dec.{leb}
-use lib.ListN.{get_or}
 use Rattle.base.specs.Tests.{between}
 use Rattle.process.specs.declared.Channel.{Channel}
-use Rattle.process.specs.Channels.{no_channel}
+use Rattle.lane.specs.declared.Lane.{Lane}
+use Rattle.lane.specs.State.{channel_of}
 use Rattle.lane.specs.Sound.{channel_sound}
 use Rattle.flags.specs.Clean.{clean}
 use Rattle.flags.proofs.Clean.{Tells, laid, one}
 use Rattle.sound_parts.proofs.limits.Given as goal
 
--- the three tests of a channel, by the array that was handed over, and the first two together
-abbrev pub roomy : List Channel → ℕ → Bool
-roomy channels c = let h = get_or channels c no_channel in between 1 h.capacity 256
+-- the three tests of a channel
+abbrev pub roomy : Lane → ℕ → Bool
+roomy lane c = between 1 (channel_of lane c).capacity 256
 
-abbrev pub early : List Channel → ℕ → Bool
-early channels c = let h = get_or channels c no_channel in leb h.oldest 255
+abbrev pub early : Lane → ℕ → Bool
+early lane c = leb (channel_of lane c).oldest 255
 
-abbrev pub filled : List Channel → ℕ → Bool
-filled channels c = let h = get_or channels c no_channel in leb h.held h.peak && leb h.peak h.capacity
+abbrev pub filled : Lane → ℕ → Bool
+filled lane c = leb (channel_of lane c).held (channel_of lane c).peak && leb (channel_of lane c).peak (channel_of lane c).capacity
 
 -- one channel more
 pub more : (mask : ℕ) (test : ℕ → Bool) (c x y : ℕ) → Tells mask test 0 c x → clean mask y ≡ test c → Tells mask test 0 (c + 1) (bit_or x y)
@@ -51,7 +50,4 @@ two h =
 
 abbrev pub invariant-loop-c : goal.invariant-loop-c
 invariant-loop-c l =
-    (l.c ≤ l.used) × Tells 0xFF00 (roomy l.channels) 0 l.c l.rooms × Tells 0xFF00 (early l.channels) 0 l.c l.oldests × Tells 0x10000 (filled l.channels) 0 l.c l.fillings
-
-abbrev pub decreases-loop-c : goal.decreases-loop-c
-decreases-loop-c l = l.used - l.c
+    Tells 0xFF00 (roomy l.lane) 0 l.c l.rooms × Tells 0xFF00 (early l.lane) 0 l.c l.oldests × Tells 0x10000 (filled l.lane) 0 l.c l.fillings

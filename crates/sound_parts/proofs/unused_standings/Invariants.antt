@@ -1,22 +1,15 @@
 -- `sound_parts::unused_standings` meets its contract. The loop's invariant: the processes that are left give the answer of all of them.
 -- Assumes nothing.
-use mathlib.Core.Path.{◌≡◌}
-use mathlib.Core.Bool.{Bool}
-use mathlib.Core.List.{List}
-use Prim.Native.Nat.{ℕ, ◌-◌}
-use lib.ListN.{get_or}
+use Rattle.std.proofs.Common.{◌≡◌, Bool, ℕ, ◌-◌}
 use Rattle.base.specs.Tests.{first_bad}
-use Rattle.lane.specs.declared.Standing.{Standing}
-use Rattle.lane.specs.State.{no_standing}
+use Rattle.lane.specs.declared.Lane.{Lane}
+use Rattle.lane.specs.State.{standing_of}
 use Rattle.lane.specs.Sound.{standing_zero}
 use Rattle.sound_parts.proofs.unused_standings.Given as goal
 
--- the test of one of them, by the array that was handed over
-abbrev pub right : List Standing → ℕ → Bool
-right processes p = standing_zero (get_or processes p no_standing)
+-- the test of one of them
+abbrev pub zero_at : Lane → ℕ → Bool
+zero_at lane p = standing_zero (standing_of lane p)
 
 abbrev pub invariant-loop-p : goal.invariant-loop-p
-invariant-loop-p l = first_bad (right l.processes) l.p (16 - l.p) ≡ first_bad (right l.processes) l.used (16 - l.used)
-
-abbrev pub decreases-loop-p : goal.decreases-loop-p
-decreases-loop-p l = 16 - l.p
+invariant-loop-p l = first_bad (zero_at l.lane) l.p (16 - l.p) ≡ first_bad (zero_at l.lane) l.lane.network.processes (16 - l.lane.network.processes)

@@ -1,63 +1,23 @@
-use Prim.Native.Nat.{◌<◌}
-use native.Mathlib.Omega.{arith}
-use Rattle.lane.proofs.SoundLaws.{sound_says}
-use Rattle.waits.specs.Lent.{Arrays, arrays}
-use Rattle.waits.proofs.Arrays.{low, none_yet, one_more, all_held}
+use Rattle.std.proofs.Common.{◌∙◌, ap, arith}
+use lib.ListN.{length-set}
+use Rattle.waits.specs.Waits.{pointing, full_wait, waits_at}
+use Rattle.waits.specs.Parts.{points_of, full_of, channel_of}
+use Rattle.waits.proofs.Looks.{points_at, full_at, channel_at, one_more}
 use Rattle.waits.proofs.waits_in.Goals as goal
-
-pub loop-p-init : goal.loop-p-init
-loop-p-init c = none_yet c.requires.1 c.requires.2 c.requires.3
-
-pub wait_at-wait-requires : goal.wait_at-wait-requires
-wait_at-wait-requires c =
-    let there_at : c.loop-p.p < c.requires.0.lane.network.processes = omega (arith, c.loop-p-test.true, c.requires.0.count) in
-    let s = c.requires.0 in
-    record { long = s.long; lane = s.lane; shown = s.shown; sound = s.sound; there = there_at }
-
-pub bounds-points-p : goal.bounds-points-p
-bounds-points-p c =
-    let arrays_at : Arrays = arrays c.args.code.now c.args.first.now c.args.sender.now c.args.receiver.now c.args.positions.now c.args.conditions.now c.args.capacity.now c.args.oldest.now c.args.held.now c.args.peak.now c.args.closed.now in
-    let there_at : c.loop-p.p < c.requires.0.lane.network.processes = omega (arith, c.loop-p-test.true, c.requires.0.count) in
-    let low_at : c.loop-p.p < 16 = low arrays_at c.requires.0.lane c.requires.0.shown (sound_says _ c.requires.0.sound) c.loop-p.p there_at in
-    low_at
-
-pub offset_bounds-full-p : goal.offset_bounds-full-p
-offset_bounds-full-p c =
-    let arrays_at : Arrays = arrays c.args.code.now c.args.first.now c.args.sender.now c.args.receiver.now c.args.positions.now c.args.conditions.now c.args.capacity.now c.args.oldest.now c.args.held.now c.args.peak.now c.args.closed.now in
-    let there_at : c.loop-p.p < c.requires.0.lane.network.processes = omega (arith, c.loop-p-test.true, c.requires.0.count) in
-    let low_at : c.loop-p.p < 16 = low arrays_at c.requires.0.lane c.requires.0.shown (sound_says _ c.requires.0.sound) c.loop-p.p there_at in
-    omega (arith, low_at)
-
-pub bounds-full-p : goal.bounds-full-p
-bounds-full-p c =
-    let arrays_at : Arrays = arrays c.args.code.now c.args.first.now c.args.sender.now c.args.receiver.now c.args.positions.now c.args.conditions.now c.args.capacity.now c.args.oldest.now c.args.held.now c.args.peak.now c.args.closed.now in
-    let there_at : c.loop-p.p < c.requires.0.lane.network.processes = omega (arith, c.loop-p-test.true, c.requires.0.count) in
-    let low_at : c.loop-p.p < 16 = low arrays_at c.requires.0.lane c.requires.0.shown (sound_says _ c.requires.0.sound) c.loop-p.p there_at in
-    low_at
-
-pub bounds-channel-p : goal.bounds-channel-p
-bounds-channel-p c =
-    let arrays_at : Arrays = arrays c.args.code.now c.args.first.now c.args.sender.now c.args.receiver.now c.args.positions.now c.args.conditions.now c.args.capacity.now c.args.oldest.now c.args.held.now c.args.peak.now c.args.closed.now in
-    let there_at : c.loop-p.p < c.requires.0.lane.network.processes = omega (arith, c.loop-p-test.true, c.requires.0.count) in
-    let low_at : c.loop-p.p < 16 = low arrays_at c.requires.0.lane c.requires.0.shown (sound_says _ c.requires.0.sound) c.loop-p.p there_at in
-    low_at
-
-pub overflow_add-p : goal.overflow_add-p
-overflow_add-p c =
-    let arrays_at : Arrays = arrays c.args.code.now c.args.first.now c.args.sender.now c.args.receiver.now c.args.positions.now c.args.conditions.now c.args.capacity.now c.args.oldest.now c.args.held.now c.args.peak.now c.args.closed.now in
-    let there_at : c.loop-p.p < c.requires.0.lane.network.processes = omega (arith, c.loop-p-test.true, c.requires.0.count) in
-    let low_at : c.loop-p.p < 16 = low arrays_at c.requires.0.lane c.requires.0.shown (sound_says _ c.requires.0.sound) c.loop-p.p there_at in
-    omega (arith, low_at)
-
-pub loop-p-smaller : goal.loop-p-smaller
-loop-p-smaller c = omega (arith, c.loop-p-test.true)
 
 pub loop-p-preserved : goal.loop-p-preserved
 loop-p-preserved c =
-    let arrays_at : Arrays = arrays c.args.code.now c.args.first.now c.args.sender.now c.args.receiver.now c.args.positions.now c.args.conditions.now c.args.capacity.now c.args.oldest.now c.args.held.now c.args.peak.now c.args.closed.now in
-    let there_at : c.loop-p.p < c.requires.0.lane.network.processes = omega (arith, c.loop-p-test.true, c.requires.0.count) in
-    let low_at : c.loop-p.p < 16 = low arrays_at c.requires.0.lane c.requires.0.shown (sound_says _ c.requires.0.sound) c.loop-p.p there_at in
-    one_more c.loop-p.invariant low_at c.loop-p-test.true c.wait_at-wait.ensures
-
-pub returns : goal.returns
-returns c = all_held c.loop-p.invariant c.loop-p-test.false
+    let lane = c.args.sound.now.lane in
+    let l = c.loop-p in
+    let e = c.wait_at-wait.ensures in
+    let n = l.invariant.long in
+    record {
+      long = (
+        length-set l.waits.points l.p c.points.result ∙ n.0,
+        length-set l.waits.full l.p c.full.result ∙ n.1,
+        length-set l.waits.channel l.p c.channel.result ∙ n.2,
+      );
+      pointings = one_more (pointing lane) l.waits.points l.p c.points.result (omega arith) (c.points.ensures ∙ ap points_of e ∙ points_at lane l.p c.loop-p-test.true) l.invariant.pointings;
+      fulls = one_more (full_wait lane) l.waits.full l.p c.full.result (omega arith) (c.full.ensures ∙ ap full_of e ∙ full_at lane l.p) l.invariant.fulls;
+      channels = one_more (waits_at lane) l.waits.channel l.p c.channel.result (omega arith) (c.channel.ensures ∙ ap channel_of e ∙ channel_at lane l.p) l.invariant.channels;
+    }

@@ -1,8 +1,7 @@
-use mathlib.Core.Path.{sym, ap, ◌∙◌}
-use mathlib.Core.List.{List}
-use Prim.Native.Nat.{ℕ}
+use mathlib.Core.Path.{refl, sym, ◌∙◌}
+use Prim.Native.Nat.{◌<◌}
 use native.Mathlib.Omega.{arith}
-use lib.ListN.{length, get_or}
+use borrow.Author.Rules.{rules}
 use Rattle.base.proofs.Lists.{same_at}
 use Rattle.rings.specs.Left.{tally}
 use Rattle.rings.proofs.Pointings.{points_at}
@@ -14,18 +13,20 @@ unfolding tally
 loop-p-init c =
     record {
       within = omega arith;
-      size = ap length c.requires.1;
-      says = λ q l. ap (λ (ns : List ℕ). get_or ns q 0) c.requires.1 ∙ same_at 256 q 0;
+      size = refl;
+      says = λ q l. same_at 256 q 0;
     }
 
 pub overflow_add-pointing : goal.overflow_add-pointing
 overflow_add-pointing c =
-    omega (arith, c.requires.0, counted_high _ _ _ _ c.loop-p.invariant c.number-to.result c.number-to.ensures.1)
+    let small : c.from.result < 256 = search rules in
+    omega (arith, c.requires, counted_high _ _ _ _ c.loop-p.invariant c.from.result small)
 
 pub loop-p-preserved : goal.loop-p-preserved
 loop-p-preserved c =
     let more = c.loop-p-test.true in
-    counted_more _ _ _ _ c.loop-p.invariant more c.number-to.result c.number-to.ensures.1 (points_at _ _ _ more ∙ sym c.number-to.ensures.0)
+    let small : c.from.result < 256 = search rules in
+    counted_more _ _ _ _ c.loop-p.invariant more c.from.result small (points_at _ _ _ more ∙ sym c.from.ensures)
 
 pub returns : goal.returns
 returns c = counted_all _ _ _ _ c.loop-p.invariant c.loop-p-test.false

@@ -12,25 +12,19 @@ use Rattle.rings.proofs.Pointings.{points_stay}
 use Rattle.rings.proofs.Stripping.{left_pointed}
 use Rattle.rings.proofs.strip.left_of.Goals as goal
 
-pub count_pointers-requires : goal.count_pointers-requires
-count_pointers-requires c = (c.requires, refl)
-
-pub strip-requires : goal.strip-requires
-strip-requires c = (c.requires, c.count_pointers.ensures)
-
 pub loop-p-init : goal.loop-p-init
-loop-p-init c = (omega arith, filled_none _ _ _)
+loop-p-init c = filled_none _ _ _
 
 pub loop-p-preserved : goal.loop-p-preserved
-loop-p-preserved c = (omega arith, filled_more _ _ _ _ _ _ (omega (arith, c.loop-p.invariant.1.long)) refl c.loop-p.invariant.1)
+loop-p-preserved c = filled_more _ _ _ _ _ _ (omega (arith, c.loop-p.invariant.long)) refl c.loop-p.invariant
 
 pub returns : goal.returns
 returns c =
-    let filled = c.loop-p.invariant.1 in
+    let filled = c.loop-p.invariant in
     let f : ℕ → ℕ = points_in c.args.points.now c.args.count in
     table_is (left_of f c.args.count) 16 false _ filled.long
     (λ p l.
-    filled.done p (omega (arith, c.loop-p-test.false))
+    filled.done p (omega arith)
     ∙ ap (λ (ns : List ℕ). not (eqb (get_or ns p 0) 0)) c.strip.ensures
     ∙ ap (λ (m : ℕ). not (eqb m 0)) (table_at (pointers f c.args.count (left_of f c.args.count)) 256 p 0 (omega arith))
     ∙ sym (left_pointed f c.args.count (points_stay _ _ (omega (arith, c.requires))) p))

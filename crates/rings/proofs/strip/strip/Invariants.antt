@@ -1,7 +1,7 @@
 -- `rings::strip::strip` meets its contract. The outer loop's invariant: of the processes passed those that are left are pointed to. The inner one's: but for
 -- the one that goes next. Its measure: how many are pointed to.
 -- Assumes nothing.
-use Prim.Native.Nat.{◌-◌, ◌<◌}
+use Prim.Native.Nat.{◌<◌}
 use Rattle.rings.specs.Arrays.{points_in}
 use Rattle.rings.proofs.Strips.{Stripping, Goes, pointed_to}
 use Rattle.rings.proofs.strip.strip.Given as goal
@@ -14,6 +14,3 @@ decreases-loop-at l = pointed_to l.pointing
 
 abbrev pub invariant-loop-start : goal.invariant-loop-start
 invariant-loop-start l = Stripping (points_in l.points l.count) l.count l.pointing l.start
-
-abbrev pub decreases-loop-start : goal.decreases-loop-start
-decreases-loop-start l = l.count - l.start

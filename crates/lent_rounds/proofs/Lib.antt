@@ -1,3 +1,0 @@
-pub mod Running
-pub mod Relieved
-pub mod Single
