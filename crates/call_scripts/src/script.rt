@@ -28,7 +28,7 @@ pub fn number_at<T: FromStr<Err = ParseIntError>>(line: &[u8], n: usize) -> Opti
 }
 
 // The n-th word as a number up to a limit.
-pub fn up_to(line: &[u8], n: usize, most: usize) -> Option<usize> {
+pub(crate) fn up_to(line: &[u8], n: usize, most: usize) -> Option<usize> {
     number_at(line, n).filter(|k| *k <= most)
 }
 
@@ -72,7 +72,7 @@ pub fn numbers_of<'a, T: FromStr<Err = ParseIntError> + Copy>(
 }
 
 // Whether so many words stand there at most, and each is a number of the type.
-pub fn has_numbers<T: FromStr<Err = ParseIntError> + Drop>(
+pub(crate) fn has_numbers<T: FromStr<Err = ParseIntError> + Drop>(
     line: &[u8],
     skipped: usize,
     most: usize,
