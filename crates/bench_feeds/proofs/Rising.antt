@@ -56,9 +56,9 @@ unfolding feeds_at
 feeds_inside c i n = rw (ne_eqb _ _ n)
 
 -- those between c and the next from outside are inside
-feeds_jump : {c e : ℕ} (i : Inputs) → Onward i.world.lane.network.sender i.world.lane.network.channels c e
+pub jump_on : {c e : ℕ} (i : Inputs) → Onward i.world.lane.network.sender i.world.lane.network.channels c e
     → feeds_from c (i.world.lane.network.channels - c) i ≡ feeds_from e (i.world.lane.network.channels - e) i
-feeds_jump {c} {e} i o = go (e - c) c (omega arith) (omega (arith, o.from))
+jump_on {c} {e} i o = go (e - c) c (omega arith) (omega (arith, o.from))
   where
     go : (k d : ℕ) → c ≤ d → d + k ≡ e → feeds_from d (i.world.lane.network.channels - d) i ≡ feeds_from e (i.world.lane.network.channels - e) i
     go zero d h q = let same : d ≡ e = omega arith in rw same
@@ -78,7 +78,7 @@ pub around_begins : (i : Inputs) {e : ℕ} → Onward i.world.lane.network.sende
 unfolding feeds
 around_begins i o =
     record {
-      rest = let n : i.world.lane.network.channels - 0 ≡ i.world.lane.network.channels = omega arith in rw n at (feeds_jump i o);
+      rest = let n : i.world.lane.network.channels - 0 ≡ i.world.lane.network.channels = omega arith in rw n at (jump_on i o);
       channels = refl;
       outer = o.outer;
     }
@@ -92,7 +92,7 @@ around_on {i₀} {i} {c} {e} {n} i' a h same come next =
     record {
       rest =
           a.rest ∙ feeds_next c n i h ∙ ap (feeds_from (c + 1) (n - (c + 1))) come
-          ∙ subst (λ (k : ℕ). feeds_from (c + 1) (k - (c + 1)) i' ≡ feeds_from e (k - e) i') same (feeds_jump i' o);
+          ∙ subst (λ (k : ℕ). feeds_from (c + 1) (k - (c + 1)) i' ≡ feeds_from e (k - e) i') same (jump_on i' o);
       channels = same;
       outer = λ m. o.outer (omega arith);
     }

@@ -5,15 +5,15 @@ ghost use Rattle.std.specs.Prelude.{◌≡◌, ℤ, List, ◌<◌, get_or};
 ghost use Rattle.network.specs.Rules.{sender_of, outside};
 ghost use Rattle.lane.specs.State.{world, channel_of};
 ghost use Rattle.lane.specs.Calls.{receiver_ended};
-ghost use Rattle.bench_rules.specs.Input.{records, channel_at, value_at, left_from};
-ghost use Rattle.bench_rules.specs.Feeding.{feeding, fed};
-ghost use Rattle.bench_rules.specs.Holding.{held_by, feeds_in};
+ghost use Rattle.bench_rules.specs.Input.{records, channel_at, value_at, left_from, left_at};
+ghost use Rattle.outer_ends.specs.Outer.{Outer};
+ghost use Rattle.bench_rules.specs.Feeding.{feeding, fed, feeds, inputs};
 ghost use Rattle.bench_feeds.specs.Idle.{idle_at};
 
-use bench_rules::Bench;
+use bench_rules::Ends;
 use lane::{Lane, SoundLane};
 use lane_parts::ended_at;
-use lent_calls::{close_in, feed_in};
+use lent_calls::{close_at, feed_at};
 
 // The channel of record i. Public for the bench, which looks at the records before it plays.
 pub fn channel_at(input: &[u8], i: usize) -> usize
@@ -46,11 +46,11 @@ fn fill_in(
 {
     let records = input.len() / 5;
     for i in from..records {
-        if channel_at(input, i) == c && feed_in(sound, cells, c, value_at(input, i)).is_err() {
+        if channel_at(input, i) == c && feed_at(sound, cells, c, value_at(input, i)).is_err() {
             return i;
         }
     }
-    let _ = close_in(sound, c);
+    let _ = close_at(sound, c);
     records
 }
 
@@ -68,17 +68,26 @@ fn idle(lane: &Lane, input: &[u8], c: usize, next: usize) -> bool
             && channel_at(input, next) == c
 }
 
-// Each input in turn; the channels inside are passed over. The list spares them: a `for` over all channels was tried, and costs some 3 instructions for each.
-pub fn feed_all(bench: &mut Bench)
-    ensures { held_by bench.new ≡ feeds_in (held_by bench.old) }
+// Each input in turn; the channels inside are passed over: `outer` lists those from outside. The list spares them: a `for` over all channels was tried, and
+// costs some 3 instructions for each. Public for the bench, which knows the list.
+pub fn feed_all(
+    sound: &mut SoundLane,
+    cells: &mut [i32; 8192],
+    input: &[u8],
+    next: &mut [usize; 32],
+    outer: &Ends,
+)
+    requires { Outer sound.old.lane.network.sender sound.old.lane.network.channels outer.now.first outer.now.after }
+    ensures { (inputs (left_at input.now next.new) (world sound.new.lane cells.new) ≡ feeds (inputs (left_at input.now next.old) (world sound.old.lane cells.old)))
+        × (sound.new.lane.network ≡ sound.old.lane.network) }
 {
-    let channels = bench.sound.lane.network.channels;
-    let mut c = bench.inputs.first;
+    let channels = sound.lane.network.channels;
+    let mut c = outer.first;
     while c < channels {
-        let from = bench.next[c];
-        if !idle(&bench.sound.lane, bench.input, c, from) {
-            bench.next[c] = fill_in(&mut bench.sound, &mut bench.cells, bench.input, c, from);
+        let from = next[c];
+        if !idle(&sound.lane, input, c, from) {
+            next[c] = fill_in(sound, cells, input, c, from);
         }
-        c = usize::from(bench.inputs.after[c]);
+        c = usize::from(outer.after[c]);
     }
 }

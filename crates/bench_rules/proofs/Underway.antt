@@ -10,7 +10,6 @@ use Rattle.listing.specs.Text.{Line, text}
 use Rattle.listing.specs.Listing.{HasRoom, Wrote}
 use Rattle.listing.proofs.Laws.{text_append, wrote_none, then}
 use Rattle.bench_rules.specs.Printed.{Printed, printed, silent, then_do}
-use Rattle.bench_rules.specs.Playing.{Bench}
 use Rattle.bench_rules.specs.Holding.{Done}
 
 -- `all` is to be done, on a listing that was l₀; done are some lines, which lead to `a`, and the rest is still to be done
@@ -73,5 +72,5 @@ module _ {A B : Type 0} {all : Printed B} {l₀ : Listing} {rest : A → Printed
       record { lines = u.lines; same = u.same ∙ ap (λ (r : Printed B). printed (u.lines ++ r.lines) r.after) e; wrote = u.wrote; room = u.room }
 
 -- a part of a bench, with nothing left to be done
-pub done : {all : Printed Bench} {l₀ : Listing} {rest : Bench → Printed Bench} {b : Bench} {l : Listing} → Underway all l₀ rest b l → rest b ≡ silent b → Done all l₀ b l
-done {b = b} u none = let f = finished u b none in record { after = f.0; wrote = f.1 }
+pub done : {A : Type 0} {all : Printed A} {l₀ : Listing} {rest : A → Printed A} {a : A} {l : Listing} → Underway all l₀ rest a l → rest a ≡ silent a → Done all l₀ a l
+done {a = a} u none = let f = finished u a none in record { after = f.0; wrote = f.1 }

@@ -15,6 +15,12 @@ use Rattle.bench_rules.specs.declared.Bench as code
 abbrev pub held_by : code.Bench → Bench
 held_by b = bench (world b.sound.lane b.cells) (left_at b.input.now b.next) b.given
 
+-- what it was lent or has listed stays
+pub record Kept (b b' : code.Bench) : Type 0 where
+  pub input : b'.input ≡ b.input
+  pub from_outside : b'.inputs ≡ b.inputs
+  pub to_outside : b'.outputs ≡ b.outputs
+
 -- ---- the inputs
 abbrev pub inputs_of : Bench → Inputs
 inputs_of b = inputs b.left b.world
@@ -33,10 +39,10 @@ on_outputs f b = printed (f (outputs_of b)).lines (bench (f (outputs_of b)).afte
 
 -- ---- a part of a bench, which prints
 -- its lines have room
-abbrev pub Room : Printed Bench → Listing → Type 0
+abbrev pub Room : {A : Type 0} → Printed A → Listing → Type 0
 Room d l = HasRoom (text d.lines) l
 
 -- it is done, and its lines are written
-pub record Done (d : Printed Bench) (l : Listing) (b : Bench) (l' : Listing) : Type 0 where
-  pub after : b ≡ d.after
+pub record Done {A : Type 0} (d : Printed A) (l : Listing) (a : A) (l' : Listing) : Type 0 where
+  pub after : a ≡ d.after
   pub wrote : Wrote (text d.lines) l l'

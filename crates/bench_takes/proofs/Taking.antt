@@ -23,9 +23,8 @@ use Rattle.listing.specs.declared.Listing.{Listing}
 use Rattle.listing.specs.Listing.{HasRoom, Wrote}
 use Rattle.listing.proofs.Laws.{wrote_none}
 use Rattle.bench_rules.specs.Printed.{Printed, printed, silent, then_do}
-use Rattle.bench_rules.specs.Emptying.{Outputs, line_for, take_at, takes_at}
-use Rattle.bench_rules.specs.Playing.{Bench, bench}
-use Rattle.bench_rules.specs.Holding.{outputs_of, on_outputs, Room, Done}
+use Rattle.bench_rules.specs.Emptying.{Outputs, outputs, line_for, take_at, takes_at}
+use Rattle.bench_rules.specs.Holding.{Room, Done}
 use Rattle.bench_rules.proofs.Underway.{Underway, begun, room_for, more, done}
 use Rattle.bench_rules.proofs.EmptyingLaws.{given_by}
 
@@ -68,75 +67,74 @@ text_one : (l : Line) → text (l ∷ []) ≡ line_text l
 text_one l = append-nil (line_text l)
 
 -- ---- the loop over takes: those that are left, one more than the channel holds, follow what is written
-pub record Draining (c : ℕ) (b₀ : Bench) (l₀ : Listing) (b : Bench) (l : Listing) : Type 0 where
-  pub underway : Underway (on_outputs (takes_at c (suc (held c b₀.world))) b₀) l₀ (on_outputs (takes_at c (suc (held c b.world)))) b l
-  pub takeable : Takeable c b.world
+pub record Draining (c : ℕ) (o₀ : Outputs) (l₀ : Listing) (o : Outputs) (l : Listing) : Type 0 where
+  pub underway : Underway (takes_at c (suc (held c o₀.world)) o₀) l₀ (takes_at c (suc (held c o.world))) o l
+  pub takeable : Takeable c o.world
 
-pub draining_begins : {c : ℕ} {b : Bench} {l : Listing} → Takeable c b.world → Room (on_outputs (takes_at c (suc (held c b.world))) b) l → Draining c b l b l
-draining_begins {c} {b} {l} t room = record { underway = begun (on_outputs (takes_at c (suc (held c b.world)))) b l room; takeable = t }
+pub draining_begins : {c : ℕ} {o : Outputs} {l : Listing} → Takeable c o.world → Room (takes_at c (suc (held c o.world)) o) l → Draining c o l o l
+draining_begins {c} {o} {l} t room = record { underway = begun (takes_at c (suc (held c o.world))) o l room; takeable = t }
 
-module _ {c : ℕ} {b₀ b : Bench} {l₀ l : Listing} (d : Draining c b₀ l₀ b l) where
-  take_is : (a : Told) (w' : World) → called a w' ≡ taken c b.world → take_at c (outputs_of b) ≡ given_by c b.given (called a w')
+module _ {c : ℕ} {o₀ o : Outputs} {l₀ l : Listing} (d : Draining c o₀ l₀ o l) where
+  take_is : (a : Told) (w' : World) → called a w' ≡ taken c o.world → take_at c o ≡ given_by c o.given (called a w')
   take_is a w' e =
       let t = d.takeable in
-      ap (given_by c b.given) (take_there c b.world t.sound t.there t.long t.outer ∙ sym e)
+      ap (given_by c o.given) (take_there c o.world t.sound t.there t.long t.outer ∙ sym e)
 
   -- a message
-  module _ (v : ℤ) (w' : World) (e : called (value v) w' ≡ taken c b.world) where
-    fewer : suc (held c w') ≡ held c b.world
+  module _ (v : ℤ) (w' : World) (e : called (value v) w' ≡ taken c o.world) where
+    fewer : suc (held c w') ≡ held c o.world
     fewer =
-        let q = value_taken c b.world w' v e in
-        let low = held_low c b.world.lane.channels q.0 in
-        let h = ap (λ (w : World). held c w) q.1 ∙ ap (λ (x : Channel). x.held) (get_or-set_same b.world.lane.channels c (get_one (channel_of b.world.lane c)) no_channel low) in
+        let q = value_taken c o.world w' v e in
+        let low = held_low c o.world.lane.channels q.0 in
+        let h = ap (λ (w : World). held c w) q.1 ∙ ap (λ (x : Channel). x.held) (get_or-set_same o.world.lane.channels c (get_one (channel_of o.world.lane c)) no_channel low) in
         omega (arith, h, q.0)
 
-    pub less_held : held c w' < held c b.world
+    pub less_held : held c w' < held c o.world
     less_held = omega (arith, fewer)
 
-    next_message : on_outputs (takes_at c (suc (held c b.world))) b ≡ then_do (printed (out c v ∷ []) (bench w' b.left b.given)) (on_outputs (takes_at c (suc (held c w'))))
+    next_message : takes_at c (suc (held c o.world)) o ≡ then_do (printed (out c v ∷ []) (outputs w' o.given)) (takes_at c (suc (held c w')))
     next_message =
-        ap (λ (k : ℕ). on_outputs (takes_at c (suc k)) b) (sym fewer)
-        ∙ ap (λ (r : Printed Outputs). on_outputs (λ o. then_do r (takes_at c (suc (held c w')))) b) (take_is (value v) w' e)
+        ap (λ (k : ℕ). takes_at c (suc k) o) (sym fewer)
+        ∙ ap (λ (r : Printed Outputs). then_do r (takes_at c (suc (held c w')))) (take_is (value v) w' e)
 
     pub room_for_message : HasRoom (line_text (out c v)) l
-    room_for_message =
-        rw (text_one (out c v)) at (room_for d.underway (printed (out c v ∷ []) (bench w' b.left b.given)) (on_outputs (takes_at c (suc (held c w')))) next_message)
+    room_for_message = rw (text_one (out c v)) at (room_for d.underway (printed (out c v ∷ []) (outputs w' o.given)) (takes_at c (suc (held c w'))) next_message)
 
-    pub message_drained : {l' : Listing} → Wrote (line_text (out c v)) l l' → Draining c b₀ l₀ (bench w' b.left b.given) l'
+    pub message_drained : {l' : Listing} → Wrote (line_text (out c v)) l l' → Draining c o₀ l₀ (outputs w' o.given) l'
     message_drained wrote =
         let t = d.takeable in
-        let k = subst (λ (r : Called). Preserves b.world r.world) (take_there c b.world t.sound t.there t.long t.outer ∙ sym e) (take_kept b.world c) in
+        let k = subst (λ (r : Called). Preserves o.world r.world) (take_there c o.world t.sound t.there t.long t.outer ∙ sym e) (take_kept o.world c) in
         record {
           underway =
-              more d.underway (printed (out c v ∷ []) (bench w' b.left b.given)) (on_outputs (takes_at c (suc (held c w')))) next_message refl
+              more d.underway (printed (out c v ∷ []) (outputs w' o.given)) (takes_at c (suc (held c w'))) next_message refl
               (rw (text_one (out c v)) wrote);
           takeable = record { long = k.cells ∙ t.long; sound = k.sound t.sound; there = rw k.network t.there; outer = rw k.network t.outer };
         }
 
   -- anything else: the last take
-  module _ (a : Told) (w' : World) (other : (v : ℤ) → a ≡ value v → ⊥) (e : called a w' ≡ taken c b.world) where
-    abbrev given : Printed Bench
-    given = on_outputs (λ o. given_by c o.given (called a w')) b
+  module _ (a : Told) (w' : World) (other : (v : ℤ) → a ≡ value v → ⊥) (e : called a w' ≡ taken c o.world) where
+    abbrev given : Printed Outputs
+    given = given_by c o.given (called a w')
 
-    last_take : on_outputs (takes_at c (suc (held c b.world))) b ≡ then_do given silent
+    last_take : takes_at c (suc (held c o.world)) o ≡ then_do given silent
     last_take =
-        ap (λ (k : ℕ). on_outputs (takes_at c (suc k)) b) (none_taken c b.world w' a other e)
-        ∙ ap (λ (r : Printed Outputs). on_outputs (λ o. then_do r (takes_at c 0)) b) (take_is a w' e)
+        ap (λ (k : ℕ). takes_at c (suc k) o) (none_taken c o.world w' a other e)
+        ∙ ap (λ (r : Printed Outputs). then_do r (takes_at c 0)) (take_is a w' e)
 
     room_for_last : HasRoom (text (line_for c a)) l
     room_for_last = room_for d.underway given silent last_take
 
-    last_drained : {b' : Bench} {l' : Listing} → b' ≡ given.after → Wrote (text (line_for c a)) l l' → Done (on_outputs (takes_at c (suc (held c b₀.world))) b₀) l₀ b' l'
+    last_drained : {o' : Outputs} {l' : Listing} → o' ≡ given.after → Wrote (text (line_for c a)) l l' → Done (takes_at c (suc (held c o₀.world)) o₀) l₀ o' l'
     last_drained r w = done (more d.underway given silent last_take r w) refl
 
   -- the end
-  module _ (w' : World) (e : called the_end w' ≡ taken c b.world) where
+  module _ (w' : World) (e : called the_end w' ≡ taken c o.world) where
     pub room_for_end : HasRoom (line_text (end c)) l
     room_for_end = rw (text_one (end c)) at (room_for_last the_end w' (λ v f. cc) e)
 
-    pub end_drained : {l' : Listing} → Wrote (line_text (end c)) l l' → Done (on_outputs (takes_at c (suc (held c b₀.world))) b₀) l₀ (bench w' b.left (set b.given c true)) l'
+    pub end_drained : {l' : Listing} → Wrote (line_text (end c)) l l' → Done (takes_at c (suc (held c o₀.world)) o₀) l₀ (outputs w' (set o.given c true)) l'
     end_drained w = last_drained the_end w' (λ v f. cc) e refl (rw (text_one (end c)) w)
 
   -- a refusal
-  pub refused_drained : (k : ℕ) (w' : World) → called (refused k) w' ≡ taken c b.world → Done (on_outputs (takes_at c (suc (held c b₀.world))) b₀) l₀ (bench w' b.left b.given) l
+  pub refused_drained : (k : ℕ) (w' : World) → called (refused k) w' ≡ taken c o.world → Done (takes_at c (suc (held c o₀.world)) o₀) l₀ (outputs w' o.given) l
   refused_drained k w' e = last_drained (refused k) w' (λ v f. cc) e refl (wrote_none l)

@@ -3,27 +3,36 @@
 
 ghost use Rattle.std.specs.Prelude.{◌≡◌, false, not, suc, ◌&&◌, ◌||◌, ◌<◌, ltb, get_or};
 ghost use Rattle.network.specs.Rules.{receiver_of, outside};
-ghost use Rattle.lane.specs.State.{channel_of};
-ghost use Rattle.bench_rules.specs.Emptying.{takes_at, empties};
-ghost use Rattle.bench_rules.specs.Holding.{held_by, on_outputs, Room, Done};
+ghost use Rattle.outer_ends.specs.Outer.{Outer};
+ghost use Rattle.lane.specs.State.{world, channel_of};
+ghost use Rattle.bench_rules.specs.Emptying.{outputs, takes_at, empties};
+ghost use Rattle.bench_rules.specs.Holding.{Room, Done};
 
-use bench_rules::Bench;
-use lent_calls::take_in;
+use bench_rules::Ends;
+use lane::{Lane, SoundLane};
+use lent_calls::take_at;
 use listing::Listing;
 
 // Channel c, which goes outside: all that it holds, and one take more, which gives the end or is refused.
-fn drain(bench: &mut Bench, c: usize, listing: &mut Listing)
-    requires there { c < bench.old.sound.lane.network.channels }
-    requires outer { receiver_of bench.old.sound.lane.network c ≡ outside }
-    requires room { Room (on_outputs (takes_at c (suc (channel_of bench.old.sound.lane c).held)) (held_by bench.old)) listing.old }
-    ensures { Done (on_outputs (takes_at c (suc (channel_of bench.old.sound.lane c).held)) (held_by bench.old)) listing.old (held_by bench.new) listing.new }
+fn drain(
+    sound: &mut SoundLane,
+    cells: &[i32; 8192],
+    given: &mut [bool; 32],
+    c: usize,
+    listing: &mut Listing,
+)
+    requires there { c < sound.old.lane.network.channels }
+    requires outer { receiver_of sound.old.lane.network c ≡ outside }
+    requires room { Room (takes_at c (suc (channel_of sound.old.lane c).held) (outputs (world sound.old.lane cells.now) given.old)) listing.old }
+    ensures done { Done (takes_at c (suc (channel_of sound.old.lane c).held) (outputs (world sound.old.lane cells.now) given.old)) listing.old (outputs (world sound.new.lane cells.now) given.new) listing.new }
+    ensures network { sound.new.lane.network ≡ sound.old.lane.network }
 {
     // Until there is nothing more: how often is not known before.
     loop {
-        match take_in(&mut bench.sound, &bench.cells, c) {
+        match take_at(sound, cells, c) {
             Ok(Some(v)) => listing.output(c, v),
             Ok(None) => {
-                bench.given[c] = true;
+                given[c] = true;
                 listing.end(c);
                 return;
             }
@@ -33,26 +42,34 @@ fn drain(bench: &mut Bench, c: usize, listing: &mut Listing)
 }
 
 // Channel c, which goes outside, has something to give: its end was not given, and it holds a message or is closed.
-fn gives(bench: &Bench, c: usize) -> bool
+fn gives(lane: &Lane, given: &[bool; 32], c: usize) -> bool
     requires { c < 32 }
-    ensures { result ≡ (not (get_or bench.now.given c false) && (ltb 0 (channel_of bench.now.sound.lane c).held || (channel_of bench.now.sound.lane c).closed)) }
+    ensures { result ≡ (not (get_or given.now c false) && (ltb 0 (channel_of lane.now c).held || (channel_of lane.now c).closed)) }
 {
-    let channel = bench.sound.lane.channels[c];
-    !bench.given[c] && (0 < channel.held || channel.closed)
+    let channel = lane.channels[c];
+    !given[c] && (0 < channel.held || channel.closed)
 }
 
-// Each output in turn; the channels inside are passed over, and one that is open and empty has nothing to give. Public for the bench, which has shown
-// that there is room.
-pub fn take_all(bench: &mut Bench, listing: &mut Listing)
-    requires { Room (on_outputs empties (held_by bench.old)) listing.old }
-    ensures { Done (on_outputs empties (held_by bench.old)) listing.old (held_by bench.new) listing.new }
+// Each output in turn; the channels inside are passed over, since `outer` lists those to the outside, and one that is open and empty has nothing to give.
+// Public for the bench, which knows the list, and has shown that there is room.
+pub fn take_all(
+    sound: &mut SoundLane,
+    cells: &[i32; 8192],
+    given: &mut [bool; 32],
+    outer: &Ends,
+    listing: &mut Listing,
+)
+    requires listed { Outer sound.old.lane.network.receiver sound.old.lane.network.channels outer.now.first outer.now.after }
+    requires room { Room (empties (outputs (world sound.old.lane cells.now) given.old)) listing.old }
+    ensures done { Done (empties (outputs (world sound.old.lane cells.now) given.old)) listing.old (outputs (world sound.new.lane cells.now) given.new) listing.new }
+    ensures network { sound.new.lane.network ≡ sound.old.lane.network }
 {
-    let channels = bench.sound.lane.network.channels;
-    let mut c = bench.outputs.first;
+    let channels = sound.lane.network.channels;
+    let mut c = outer.first;
     while c < channels {
-        if gives(bench, c) {
-            drain(bench, c, listing);
+        if gives(&sound.lane, given, c) {
+            drain(sound, cells, given, c, listing);
         }
-        c = usize::from(bench.outputs.after[c]);
+        c = usize::from(outer.after[c]);
     }
 }

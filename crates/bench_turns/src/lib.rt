@@ -5,7 +5,8 @@ ghost use Rattle.std.specs.Prelude.{◌≡◌, ◌<◌};
 ghost use Rattle.listing.specs.Text.{text};
 ghost use Rattle.listing.specs.Listing.{HasRoom, Wrote};
 ghost use Rattle.bench_rules.specs.Playing.{plays_one, status_of, proc_lines};
-ghost use Rattle.bench_rules.specs.Holding.{held_by, Room, Done};
+ghost use Rattle.bench_rules.specs.Emptying.{empties};
+ghost use Rattle.bench_rules.specs.Holding.{held_by, Kept, feeds_in, on_outputs, Room, Done};
 ghost use Rattle.bench_turns.specs.Turns.{byte_in};
 
 use bench_feeds::feed_all;
@@ -16,11 +17,41 @@ use listing::{Listing, Status};
 use process::Condition;
 use waits::Wait;
 
+// The inputs fed.
+fn feed(bench: &mut Bench)
+    ensures fed { held_by bench.new ≡ feeds_in (held_by bench.old) }
+    ensures kept { Kept bench.old bench.new }
+{
+    feed_all(
+        &mut bench.sound,
+        &mut bench.cells,
+        bench.input,
+        &mut bench.next,
+        &bench.inputs,
+    );
+}
+
+// The outputs emptied.
+fn take(bench: &mut Bench, listing: &mut Listing)
+    requires { Room (on_outputs empties (held_by bench.old)) listing.old }
+    ensures done { Done (on_outputs empties (held_by bench.old)) listing.old (held_by bench.new) listing.new }
+    ensures kept { Kept bench.old bench.new }
+{
+    take_all(
+        &mut bench.sound,
+        &bench.cells,
+        &mut bench.given,
+        &bench.outputs,
+        listing,
+    );
+}
+
 // A pick byte alone: a pick of a process, or a relief.
 fn pick_byte(bench: &mut Bench, pick: u8, listing: &mut Listing)
     requires named { (pick ≡ 255 → ⊥) → pick < bench.old.sound.lane.network.processes }
     requires room { Room (byte_in pick (held_by bench.old)) listing.old }
-    ensures { Done (byte_in pick (held_by bench.old)) listing.old (held_by bench.new) listing.new }
+    ensures done { Done (byte_in pick (held_by bench.old)) listing.old (held_by bench.new) listing.new }
+    ensures kept { Kept bench.old bench.new }
 {
     if pick == 255 {
         if let Ok(enlarged) = schedule::relieve_in(&mut bench.sound) {
@@ -36,11 +67,12 @@ fn pick_byte(bench: &mut Bench, pick: u8, listing: &mut Listing)
 pub fn play_one(bench: &mut Bench, pick: u8, listing: &mut Listing)
     requires named { (pick ≡ 255 → ⊥) → pick < bench.old.sound.lane.network.processes }
     requires room { Room (plays_one pick (held_by bench.old)) listing.old }
-    ensures { Done (plays_one pick (held_by bench.old)) listing.old (held_by bench.new) listing.new }
+    ensures done { Done (plays_one pick (held_by bench.old)) listing.old (held_by bench.new) listing.new }
+    ensures kept { Kept bench.old bench.new }
 {
-    feed_all(bench);
+    feed(bench);
     pick_byte(bench, pick, listing);
-    take_all(bench, listing);
+    take(bench, listing);
 }
 
 // How process p stands.

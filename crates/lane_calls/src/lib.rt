@@ -85,7 +85,7 @@ fn feed_into(lane: &mut Lane, cells: &mut [i32; 8192], c: usize, v: i32) -> Resu
 {
     let mut fed = lane_sound::tested(*lane)?;
     call_parts::outer(&fed, &lane.network.sender, c)?;
-    lent_calls::feed_in(&mut fed, cells, c, v)?;
+    lent_calls::feed_at(&mut fed, cells, c, v)?;
     *lane = fed.lane;
     Ok(())
 }
@@ -96,7 +96,7 @@ fn close_in(lane: &mut Lane, c: usize) -> Result<(), Refusal>
 {
     let mut closed = lane_sound::tested(*lane)?;
     call_parts::outer(&closed, &lane.network.sender, c)?;
-    lent_calls::close_in(&mut closed, c)?;
+    lent_calls::close_at(&mut closed, c)?;
     *lane = closed.lane;
     Ok(())
 }
@@ -119,7 +119,7 @@ fn take_from(lane: &mut Lane, cells: &[i32; 8192], c: usize) -> Result<Option<i3
 {
     let mut left = lane_sound::tested(*lane)?;
     call_parts::outer(&left, &lane.network.receiver, c)?;
-    let taken = lent_calls::take_in(&mut left, cells, c)?;
+    let taken = lent_calls::take_at(&mut left, cells, c)?;
     *lane = left.lane;
     Ok(taken)
 }

@@ -1,13 +1,15 @@
 -- What each instruction did and left, by the cases of its code, is the pick.
 -- Assumes nothing.
-use mathlib.Core.Path.{◌≡◌, sym, ◌∙◌}
+use mathlib.Core.Path.{◌≡◌, refl, sym, ap, ◌∙◌}
 use mathlib.Core.Bool.{Bool, true, false, cond, ◌&&◌}
 use mathlib.Core.List.{List}
 use Prim.Native.Nat.{ℕ, ◌+◌, ◌*◌, ◌≤◌, ◌<◌}
+use native.Mathlib.Decide.{ℕ_discrete}
+use native.Mathlib.Omega.{arith}
 use borrow.Author.Tests.{eq-eqb, ne_eqb}
 use lib.IntN.{ℤ, pos}
-use lib.ListN.{get_or, set}
-use lib.Seq.{set-get_or}
+use lib.ListN.{length, get_or, set}
+use lib.Seq.{set-get_or, get_or-set_same, get_or-set_other}
 use Rattle.network.specs.declared.Instruction.{Instruction}
 use Rattle.network.specs.Code.{register}
 use Rattle.network.specs.Rules.{receiver_of}
@@ -25,7 +27,7 @@ use Rattle.lane.specs.Pick.{channel_in}
 use Rattle.register_steps.specs.declared.Did.{Did}
 use Rattle.register_steps.specs.declared.Did.TheVariants.{On, To, WaitEmpty, WaitFull, Stop, Fault}
 use Rattle.register_steps.specs.Divides.{did_by, file_by}
-use Rattle.lent_steps.specs.Steps.{with_state, At, Turned, Ready}
+use Rattle.lent_steps.specs.Steps.{with_state, At, Turned, Means, Ready}
 use Rattle.lent_steps.proofs.Turns.{did_assign, did_on, did_send, did_jump, did_wait_empty, did_wait_full, did_stop, did_fault}
 
 -- ---- the fields of an instruction
@@ -175,3 +177,20 @@ module _ {l : Lane} {p : ℕ} {i : Instruction} (at : At l p i) (cells : List �
   pub close_open : {hs : List Channel} {k : Channel} → i.op ≡ 13 → h.closed ≡ false → k ≡ close_one h → hs ≡ set l.channels c k → Turned On p (world l cells) (world (with_state l.registers hs l) cells)
   unfolding want_live execute
   close_open o s n g = did_on at cells (close_one h) (rw (o, ← here, s)) (g ∙ rw (b, n))
+
+-- ---- whoever the process is
+module _ {l : Lane} {p : ℕ} {i : Instruction} {r : Did} {cells : List ℤ} where
+  -- registers alone
+  pub on_registers : {file : List ℤ} → (At l p i → Turned r p (world l cells) (world (with_state file l.channels l) cells)) → Means i r p (world l cells) (world (with_state file l.channels l) cells)
+  on_registers t = record { turned = t; network = refl; stays = refl; accepted = refl; capacities = λ c. refl }
+
+  -- a channel, whose capacity stays, and perhaps a cell
+  pub on_channel :
+      (c : ℕ) (k : Channel) {file : List ℤ} {hs : List Channel} {cells' : List ℤ} → c < length l.channels → hs ≡ set l.channels c k → k.capacity ≡ (channel_of l c).capacity
+      → (At l p i → Turned r p (world l cells) (world (with_state file hs l) cells')) → Means i r p (world l cells) (world (with_state file hs l) cells')
+  on_channel c k low e same t =
+      record { turned = t; network = refl; stays = refl; accepted = refl; capacities = λ d. rw e (go d (ℕ_discrete d c)) }
+    where
+      go : (d : ℕ) → Dec (d ≡ c) → (get_or (set l.channels c k) d no_channel).capacity ≡ (channel_of l d).capacity
+      go d (yes q) = rw q (ap (λ (h : Channel). h.capacity) (get_or-set_same l.channels c k no_channel low) ∙ same)
+      go d (no q) = ap (λ (h : Channel). h.capacity) (get_or-set_other l.channels c d k no_channel q)

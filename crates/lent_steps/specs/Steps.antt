@@ -67,6 +67,15 @@ pub record Turned (r : Did) (p : ℕ) (w w' : World) : Type 0 where
   pub stays : w'.lane.processes ≡ w.lane.processes
   pub told : answer_to (step_for p w).outcome (channel_in (instruction_for p w.lane)) ≡ says r (channel_in (instruction_for p w.lane))
 
+-- instruction i for process p: it did r, and left w'. Where p is live and stands at it, that is the pick; whoever p is, nothing is left of w but
+-- registers, what channels hold, and cells
+pub record Means (i : Instruction) (r : Did) (p : ℕ) (w w' : World) : Type 0 where
+  pub turned : At w.lane p i → Turned r p w w'
+  pub network : w'.lane.network ≡ w.lane.network
+  pub stays : w'.lane.processes ≡ w.lane.processes
+  pub accepted : w'.lane.accepted ≡ w.lane.accepted
+  pub capacities : (c : ℕ) → (channel_of w'.lane c).capacity ≡ (channel_of w.lane c).capacity
+
 -- what the caller of an instruction has shown: it passes the file's rules for some process (with so many instructions, at these ends of channel
 -- b), and its channel is that of a sound lane
 pub record Ready (i : Instruction) (l : Lane) : Type 0 where

@@ -5,7 +5,7 @@
 ghost use Rattle.std.specs.Prelude.{◌≡◌, ◌≤◌, ◌<◌, ◌+◌, List, ℤ, set};
 ghost use Rattle.lane.specs.State.{world, channel_of};
 ghost use Rattle.lane.specs.Pick.{channel_in};
-ghost use Rattle.lent_steps.specs.Steps.{At, Turned, Ready};
+ghost use Rattle.lent_steps.specs.Steps.{Means, Ready};
 
 use lane::Lane;
 use lane_parts::{channel_of, ended_at, slot};
@@ -15,8 +15,8 @@ use register_steps::{Did, assign, branch, operate, register, signed16};
 // The oldest message; empty and closed is the end, empty and open waits.
 #[inline(always)]
 fn receive(lane: &mut Lane, cells: &[i32; 8192], p: usize, i: Instruction) -> Did
-    requires { At lane.old p i × (i.op ≡ 11) × (i.a < 8) × ((channel_of lane.old (channel_in i)).oldest < 256) }
-    ensures { Turned result p (world lane.old cells.now) (world lane.new cells.now) }
+    requires { (p < 16) × (i.op ≡ 11) × (i.a < 8) × ((channel_of lane.old (channel_in i)).oldest < 256) }
+    ensures { Means i result p (world lane.old cells.now) (world lane.new cells.now) }
 {
     let c = channel_of(i);
     let from = lane.channels[c];
@@ -34,8 +34,8 @@ fn receive(lane: &mut Lane, cells: &[i32; 8192], p: usize, i: Instruction) -> Di
 // A closed channel faults, full or not; one whose receiver has ended takes the message and does not store it.
 #[inline(always)]
 fn send(lane: &mut Lane, cells: &mut [i32; 8192], p: usize, i: Instruction) -> Did
-    requires { At lane.old p i × (i.op ≡ 12) × (i.a < 8) × ((channel_of lane.old (channel_in i)).held ≤ (channel_of lane.old (channel_in i)).capacity) }
-    ensures { Turned result p (world lane.old cells.old) (world lane.new cells.new) }
+    requires { (p < 16) × (i.op ≡ 12) × (i.a < 8) × ((channel_of lane.old (channel_in i)).held ≤ (channel_of lane.old (channel_in i)).capacity) }
+    ensures { Means i result p (world lane.old cells.old) (world lane.new cells.new) }
 {
     let c = channel_of(i);
     let to = lane.channels[c];
@@ -56,8 +56,8 @@ fn send(lane: &mut Lane, cells: &mut [i32; 8192], p: usize, i: Instruction) -> D
 // A channel already closed faults.
 #[inline(always)]
 fn close(lane: &mut Lane, p: usize, i: Instruction) -> Did
-    requires { At lane.old p i × (i.op ≡ 13) }
-    ensures { (cells : List ℤ) → Turned result p (world lane.old cells) (world lane.new cells) }
+    requires { (p < 16) × (i.op ≡ 13) }
+    ensures { (cells : List ℤ) → Means i result p (world lane.old cells) (world lane.new cells) }
 {
     let c = channel_of(i);
     let channel = lane.channels[c];
@@ -78,11 +78,11 @@ fn load(i: Instruction, file: &mut [i32; 128], base: usize, v: i32) -> Did
 }
 
 // The instruction of a live process, by its opcode; one above 13 faults. Public for `lent_picks`, which has shown what it requires: the
-// instruction passes the file's rules, and its channel is that of a sound lane.
+// instruction passes the file's rules, and its channel is that of a sound lane. That the process is live and stands at it is not asked for.
 #[inline(always)]
 pub fn step(lane: &mut Lane, cells: &mut [i32; 8192], p: usize, i: Instruction) -> Did
-    requires { At lane.old p i × Ready i lane.old }
-    ensures { Turned result p (world lane.old cells.old) (world lane.new cells.new) }
+    requires { (p < 16) × Ready i lane.old }
+    ensures { Means i result p (world lane.old cells.old) (world lane.new cells.new) }
 {
     let base = 8 * p;
     let file = &mut lane.registers;

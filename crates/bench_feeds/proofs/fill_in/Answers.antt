@@ -13,10 +13,10 @@ returns-then-is_err c =
     let l = c.loop-i in
     let inlet = inlet_at c.args.sound.now.lane l.sound.sound l.invariant.network l.invariant.long c.requires in (
       l.invariant.rest
-          ∙ turned_down c.args.input.now c.args.c l.i _ c.feed_in.result (sym c.is_err.ensures.value ∙ c.if-is_err.true) inlet (omega arith)
+          ∙ turned_down c.args.input.now c.args.c l.i _ c.feed_at.result (sym c.is_err.ensures.value ∙ c.if-is_err.true) inlet (omega arith)
           (sym c.channel_at.ensures ∙ c.if-channel_at-c.true)
-          (rw (to_z-of_z {w = w32} (record { sfits = c.value_at.type_inv }), c.value_at.ensures) at c.feed_in.ensures.0),
-      c.feed_in.ensures.1 ∙ l.invariant.network,
+          (rw (to_z-of_z {w = w32} (record { sfits = c.value_at.type_inv }), c.value_at.ensures) at c.feed_at.ensures.0),
+      c.feed_at.ensures.1 ∙ l.invariant.network,
     )
 
 pub loop-i-preserved : goal.loop-i-preserved
@@ -28,11 +28,11 @@ loop-i-preserved c =
           rw (w.sound-is, w.cells-is) (record {
             rest =
                 l.invariant.rest
-                ∙ taken_in c.args.input.now c.args.c l.i _ w.feed_in.result (sym w.is_err.ensures.value ∙ w.if-is_err.false) inlet (omega arith)
+                ∙ taken_in c.args.input.now c.args.c l.i _ w.feed_at.result (sym w.is_err.ensures.value ∙ w.if-is_err.false) inlet (omega arith)
                 (sym c.channel_at.ensures ∙ w.if-channel_at-c.true)
-                (rw (to_z-of_z {w = w32} (record { sfits = w.value_at.type_inv }), w.value_at.ensures) at w.feed_in.ensures.0);
-            network = w.feed_in.ensures.1 ∙ l.invariant.network;
-            long = w.feed_in.array_long;
+                (rw (to_z-of_z {w = w32} (record { sfits = w.value_at.type_inv }), w.value_at.ensures) at w.feed_at.ensures.0);
+            network = w.feed_at.ensures.1 ∙ l.invariant.network;
+            long = w.feed_at.array_long;
           })
       | else-channel_at-c-via-else-channel_at-c w ↦
           rw (w.sound-is, w.cells-is) (record {
@@ -46,6 +46,6 @@ pub returns : goal.returns
 returns c =
     let l = c.loop-i in
     let inlet = inlet_at c.args.sound.now.lane l.sound.sound l.invariant.network l.invariant.long c.requires in (
-      l.invariant.rest ∙ spent c.args.input.now c.args.c l.i _ _ inlet (omega arith) (omega arith) (c.close_in.ensures.0 l.cells),
-      c.close_in.ensures.1 ∙ l.invariant.network,
+      l.invariant.rest ∙ spent c.args.input.now c.args.c l.i _ _ inlet (omega arith) (omega arith) (c.close_at.ensures.0 l.cells),
+      c.close_at.ensures.1 ∙ l.invariant.network,
     )

@@ -33,11 +33,11 @@ grow-requires-clause-capacity c =
 pub grow-requires-clause-room : goal.grow-requires-clause-room
 grow-requires-clause-room c = room_for_growth (held_by c.args.bench.now) c.if-pick-eq255.true (c.in-Ok.ensures.answered, c.in-Ok.ensures.left) refl c.requires.room
 
-pub returns-in-Ok : goal.returns-in-Ok
-returns-in-Ok c = growth_done (held_by c.args.bench.now) c.if-pick-eq255.true (c.in-Ok.ensures.answered, c.in-Ok.ensures.left) refl c.grow.ensures
+pub returns-in-Ok-clause-done : goal.returns-in-Ok-clause-done
+returns-in-Ok-clause-done c = growth_done (held_by c.args.bench.now) c.if-pick-eq255.true (c.in-Ok.ensures.answered, c.in-Ok.ensures.left) refl c.grow.ensures
 
-pub returns-in_default : goal.returns-in_default
-returns-in_default c = relief_refused (held_by c.args.bench.now) c.if-pick-eq255.true (c.in_default.ensures.answered, c.in_default.ensures.left) _ refl
+pub returns-in_default-clause-done : goal.returns-in_default-clause-done
+returns-in_default-clause-done c = relief_refused (held_by c.args.bench.now) c.if-pick-eq255.true (c.in_default.ensures.answered, c.in_default.ensures.left) _ refl
 
 pub pick_one-requires : goal.pick_one-requires
 pick_one-requires c = rw c.from.ensures (c.requires.named c.if-pick-eq255.false)
@@ -48,8 +48,8 @@ invariant_of-bench-2 c =
     let n = ap (λ (r : Called). r.world.lane.network) c.pick_one.ensures ∙ pick_network _ (world b.sound.lane b.cells) in
     record { from_outside = rw n b.from_outside; to_outside = rw n b.to_outside }
 
-pub returns : goal.returns
-returns c =
+pub returns-clause-done : goal.returns-clause-done
+returns-clause-done c =
     pick_done (held_by c.args.bench.now) c.if-pick-eq255.false (rw c.from.ensures at (ap (λ (r : Called). r.world) c.pick_one.ensures))
 
 pub grow-requires-clause-channel : goal.grow-requires-clause-channel

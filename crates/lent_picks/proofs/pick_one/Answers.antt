@@ -15,7 +15,7 @@ returns-in_default c =
 pub step-did-requires : goal.step-did-requires
 step-did-requires c =
     let shaped : Shaped c.args.sound.now.lane = record { registers = omega arith; processes = omega arith; channels = omega arith } in (
-      at_is _ c.args.sound.now.sound c.args.p c.requires shaped c.in-Live.is c.instruction_of-i.ensures,
+      low_of _ c.args.sound.now.sound c.args.p c.requires,
       ready_is _ c.args.sound.now.sound c.args.p c.requires shaped c.instruction_of-i.ensures,
     )
 
@@ -30,5 +30,6 @@ finish-requires c =
 pub invariant_of-sound : goal.invariant_of-sound
 invariant_of-sound c =
     let shaped : Shaped c.args.sound.now.lane = record { registers = omega arith; processes = omega arith; channels = omega arith } in
-    let after = sound_after _ c.args.sound.now.sound c.args.p c.requires shaped c.args.cells.now c.step-did.ensures (c.finish.ensures.0 c.step-did.new.cells) in
+    let turned = c.step-did.ensures.turned (at_is _ c.args.sound.now.sound c.args.p c.requires shaped c.in-Live.is c.instruction_of-i.ensures) in
+    let after = sound_after _ c.args.sound.now.sound c.args.p c.requires shaped c.args.cells.now turned (c.finish.ensures.0 c.step-did.new.cells) in
     record { sound = after.0; few_processes = rw after.1 c.args.sound.now.few_processes; few_channels = rw after.1 c.args.sound.now.few_channels }

@@ -15,4 +15,4 @@ pub play_one-requires-clause-room : goal.play_one-requires-clause-room
 play_one-requires-clause-room c = room_for_byte c.loop-pick.invariant c.loop-pick-test.true
 
 pub loop-pick-preserved : goal.loop-pick-preserved
-loop-pick-preserved c = one_played c.loop-pick.invariant c.loop-pick-test.true c.play_one.ensures
+loop-pick-preserved c = one_played c.loop-pick.invariant c.loop-pick-test.true c.play_one.ensures.done
