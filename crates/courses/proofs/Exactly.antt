@@ -102,7 +102,7 @@ module _ (n : Network) (w : World) (s : Ready n w) where
           by (no z) = later q (omega arith) (omega arith)
 
 -- a relief that enlarged nothing leaves the lane as it was
-ungrown : (l : Lane) (buffer : List ℕ) → has_grown (relieve_of l buffer).answer ≡ false → (relieve_of l buffer).lane ≡ l
+pub ungrown : (l : Lane) (buffer : List ℕ) → has_grown (relieve_of l buffer).answer ≡ false → (relieve_of l buffer).lane ≡ l
 ungrown l buffer =
     relief_cases (λ (r : Relief). has_grown r.answer ≡ false → r.lane ≡ l) l buffer (λ k e. refl) (λ ring c b s e t. absurd (true≢false t))
 

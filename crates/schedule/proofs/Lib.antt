@@ -1,3 +1,4 @@
 pub mod Ready
 pub mod Through
+pub mod Counted
 pub mod Fixture

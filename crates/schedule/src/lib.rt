@@ -1,13 +1,22 @@
-// The relief inside a run or a drive: what both share.
+// The relief inside a run or a drive: what both share; and the count of accepted calls after so many of them.
 #![tactic(auto)]
 
 ghost use Rattle.std.specs.Prelude.{◌≡◌, ℕ, replicate};
 ghost use Rattle.relief.specs.Relief.{told, relieve_of};
 ghost use Rattle.schedule.specs.Running.{has_grown};
+ghost use Rattle.schedule.specs.Counted.{counted_by};
 
 use base::Refusal;
 use lane::SoundLane;
 use relief::Enlargement;
+
+// The count of accepted calls after so many reliefs that enlarged: it stays at its largest.
+#[tactic(auto, using(crate::proofs::Counted::counted_sum))]
+pub fn count_by(enlarged: u64, accepted: u64) -> u64
+    ensures { result ≡ counted_by enlarged accepted }
+{
+    accepted.saturating_add(enlarged)
+}
 
 // The relief of a sound lane, with a ring buffer of its own, which has room for any ring. Public for the driver and the bench, which have tested once that
 // the lane is sound.
