@@ -21,7 +21,7 @@ use Rattle.drives.specs.Drive.{Next, ends, goes, end_of, by_relief, next_after, 
 use Rattle.drives.specs.Parts.{next_of, gain_of, Ruled}
 
 -- what a relief leaves that enlarged, or did not
-left_is : (moved : ℕ) (w : World) (l : Lane) (b : Bool) → b ≡ has_grown (relief_in w) → l ≡ (relief.relieve_of w.lane (replicate 16 0)).lane
+pub left_is : (moved : ℕ) (w : World) (l : Lane) (b : Bool) → b ≡ has_grown (relief_in w) → l ≡ (relief.relieve_of w.lane (replicate 16 0)).lane
     → (grown : ℕ) → running (world l w.cells) moved (grown + cond b 1 0) ≡ left_after (running w moved grown)
 unfolding relieves
 left_is moved w l b e f grown = rw (e, f) (by (has_grown (relief_in w)))
@@ -51,12 +51,11 @@ stops moved w l r d z e q f =
 
 -- ---- the rounds that are left
 -- what follows: the drive ends, or k rounds at most come after n
-onward : Next → ℕ → ℕ → Running → Drive
+abbrev pub onward : Next → ℕ → ℕ → Running → Drive
 onward (ends e) k n r = driven e n r
 onward goes k n r = rounds k n r
 
-round_more : (k n : ℕ) (r : Running) → rounds (suc k) n r ≡ onward (next_after (round r)) k (n + 1) (left_after (round r))
-unfolding onward
+pub round_more : (k n : ℕ) (r : Running) → rounds (suc k) n r ≡ onward (next_after (round r)) k (n + 1) (left_after (round r))
 round_more k n r = go (next_after (round r)) refl
   where
     go : (x : Next) → next_after (round r) ≡ x → rounds (suc k) n r ≡ onward x k (n + 1) (left_after (round r))
@@ -83,14 +82,12 @@ module _ (P most made enlarged : ℕ) (w w' : World) (moved : ℕ) (h : made < m
   -- it goes on
   pub one_more_round : (grew : Bool) (w'' : World) → Ruled moved w' (Continue grew) w'' → (m m' : ℕ)
       → done P (rounds (most - (made + 1)) (made + 1) (running w'' m (enlarged + cond grew 1 0))) ≡ done P (rounds (most - made) made (running w m' enlarged))
-  unfolding onward
   one_more_round grew w'' r m m' =
       moves_apart P (most - (made + 1)) (made + 1) w'' m moved (enlarged + cond grew 1 0) ∙ ap (done P) (sym (more (Continue grew) w'' r m'))
 
   -- it ends
   pub last_round : (d : End) (w'' : World) → Ruled moved w' (Break d) w'' → (m : ℕ)
       → result (drove (end_of d) (P * (made + 1)) enlarged) w'' ≡ done P (rounds (most - made) made (running w m enlarged))
-  unfolding onward
   last_round d w'' r m =
       let z : enlarged ≡ enlarged + 0 = omega arith in
       ap (λ (g : ℕ). result (drove (end_of d) (P * (made + 1)) g) w'') z ∙ ap (done P) (sym (more (Break d) w'' r m))

@@ -22,3 +22,8 @@ gain_of (Continue grew) = cond grew 1 0
 pub record Ruled (moved : ℕ) (w : World) (next : ControlFlow End Bool) (w' : World) : Type 0 where
   pub follows : (grown : ℕ) → next_of next ≡ drive.next_after (running w moved grown)
   pub leaves : (grown : ℕ) → running w' moved (grown + gain_of next) ≡ drive.left_after (running w moved grown)
+
+-- how a drive ends with what comes after its last round: where it would go on, no round is left (`rounds_end` of proofs/RoundLaws.antt)
+abbrev pub end_by : drive.Next → drive.Ended
+end_by (drive.ends e) = e
+end_by drive.goes = drive.spent

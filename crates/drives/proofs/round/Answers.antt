@@ -3,7 +3,7 @@
 use mathlib.Core.Path.{sym, ◌∙◌}
 use native.Mathlib.Omega.{arith}
 use Rattle.lane.specs.State.{world}
-use Rattle.drives.proofs.RoundLaws.{picked, one_more, all_picked}
+use Rattle.drives.proofs.Turns.{picked, one_more, all_picked}
 use Rattle.drives.proofs.round.Goals as goal
 
 pub loop-p-preserved : goal.loop-p-preserved

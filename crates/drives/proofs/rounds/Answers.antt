@@ -4,7 +4,7 @@ use mathlib.Core.Path.{◌∙◌}
 use native.Mathlib.Omega.{arith}
 use Rattle.lane.specs.State.{world}
 use Rattle.drives.proofs.Rule.{one_more_round, last_round, no_round}
-use Rattle.drives.proofs.RoundLaws.{one_more, bool_is}
+use Rattle.drives.proofs.Turns.{one_more, bool_is}
 use Rattle.drives.proofs.rounds.Goals as goal
 
 pub returns-in-Break : goal.returns-in-Break
