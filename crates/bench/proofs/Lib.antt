@@ -1,3 +1,5 @@
 pub mod Kept
 pub mod Short
 pub mod Stages
+pub mod Parts
+pub mod Fresh
