@@ -1,5 +1,5 @@
 // Changes of a lane by hand, as a script has them: to any values, since the calls must answer on every lane (docs/SCRIPTS.md).
-use crate::script::{fits, number_at, up_to};
+use crate::script::{fits, nth_number, number_at, up_to, value_at};
 use lane::Standing;
 use process::{Channel, Condition};
 
@@ -31,58 +31,58 @@ pub enum Edit {
 
 fn network_of(words: &[u8]) -> Option<Edit> {
     Some(Edit::Network {
-        processes: number_at(words, 1)?,
-        channels: number_at(words, 2)?,
+        processes: nth_number(words, 1)?,
+        channels: nth_number(words, 2)?,
     })
 }
 
 fn slot_of(words: &[u8]) -> Option<Edit> {
     Some(Edit::Slot {
         k: up_to(words, 1, 15)?,
-        first: number_at(words, 3)?,
-        count: number_at(words, 5)?,
+        first: nth_number(words, 3)?,
+        count: nth_number(words, 5)?,
     })
 }
 
 fn record_of(words: &[u8]) -> Option<Edit> {
     Some(Edit::Record {
         k: up_to(words, 1, 31)?,
-        sender: number_at(words, 3)?,
-        receiver: number_at(words, 5)?,
-        capacity: number_at(words, 7)?,
+        sender: nth_number(words, 3)?,
+        receiver: nth_number(words, 5)?,
+        capacity: nth_number(words, 7)?,
     })
 }
 
 fn byte_of(words: &[u8]) -> Option<Edit> {
-    Some(Edit::Byte(up_to(words, 1, 4063)?, number_at(words, 2)?))
+    Some(Edit::Byte(up_to(words, 1, 4063)?, nth_number(words, 2)?))
 }
 
 fn process_of(words: &[u8], condition: Condition) -> Option<Edit> {
     let standing = Standing {
-        position: number_at(words, 3)?,
+        position: nth_number(words, 3)?,
         condition,
-        moves: number_at(words, 6)?,
+        moves: number_at(words, 6),
     };
     Some(Edit::Process(up_to(words, 1, 15)?, standing))
 }
 
 fn register_of(words: &[u8]) -> Option<Edit> {
-    Some(Edit::Register(up_to(words, 1, 127)?, number_at(words, 2)?))
+    Some(Edit::Register(up_to(words, 1, 127)?, value_at(words, 2)))
 }
 
 fn channel_of(words: &[u8], closed: bool) -> Option<Edit> {
     let channel = Channel {
-        capacity: number_at(words, 3)?,
-        oldest: number_at(words, 5)?,
-        held: number_at(words, 7)?,
-        peak: number_at(words, 9)?,
+        capacity: nth_number(words, 3)?,
+        oldest: nth_number(words, 5)?,
+        held: nth_number(words, 7)?,
+        peak: nth_number(words, 9)?,
         closed,
     };
     Some(Edit::Channel(up_to(words, 1, 31)?, channel))
 }
 
 fn cell_of(words: &[u8]) -> Option<Edit> {
-    Some(Edit::Cell(up_to(words, 1, 8192)?, number_at(words, 2)?))
+    Some(Edit::Cell(up_to(words, 1, 8192)?, value_at(words, 2)))
 }
 
 // An edit of the lane's state.
@@ -102,7 +102,7 @@ fn state_of(words: &[u8]) -> Option<Edit> {
     } else if fits(words, b"cell N V") {
         cell_of(words)
     } else if fits(words, b"accepted N") {
-        Some(Edit::Accepted(number_at(words, 1)?))
+        Some(Edit::Accepted(number_at(words, 1)))
     } else {
         None
     }

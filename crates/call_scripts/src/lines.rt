@@ -1,6 +1,6 @@
 // What a line of a script asks for (docs/SCRIPTS.md): each number of it is within its limit. A line that the page does not have is None.
 use crate::edits::{Edit, edit_of};
-use crate::script::{fits, has_numbers, number_at, rest, up_to, word};
+use crate::script::{fits, has_numbers, nth_number, number_at, rest, up_to, value_at, word};
 
 // A call, with its process or channel and its value, the size of its buffer, or its number of picks. The bytes of a run and the values of a burst stay in
 // the line.
@@ -42,7 +42,7 @@ fn run_of(line: &[u8]) -> Option<Call> {
 }
 
 fn burst_of(line: &[u8]) -> Option<Call> {
-    let c = number_at(line, 1)?;
+    let c = nth_number(line, 1)?;
     if has_numbers::<i32>(line, 2, 512) {
         Some(Call::Burst(c))
     } else {
@@ -52,23 +52,23 @@ fn burst_of(line: &[u8]) -> Option<Call> {
 
 fn call_of(line: &[u8]) -> Option<Call> {
     if fits(line, b"pick N") {
-        Some(Call::Pick(number_at(line, 1)?))
+        Some(Call::Pick(nth_number(line, 1)?))
     } else if fits(line, b"feed N V") {
-        Some(Call::Feed(number_at(line, 1)?, number_at(line, 2)?))
+        Some(Call::Feed(nth_number(line, 1)?, value_at(line, 2)))
     } else if fits(line, b"close N") {
-        Some(Call::Close(number_at(line, 1)?))
+        Some(Call::Close(nth_number(line, 1)?))
     } else if fits(line, b"take N") {
-        Some(Call::Take(number_at(line, 1)?))
+        Some(Call::Take(nth_number(line, 1)?))
     } else if fits(line, b"lent-pick N") {
-        Some(Call::LentPick(number_at(line, 1)?))
+        Some(Call::LentPick(nth_number(line, 1)?))
     } else if fits(line, b"lent-feed N V") {
-        Some(Call::LentFeed(number_at(line, 1)?, number_at(line, 2)?))
+        Some(Call::LentFeed(nth_number(line, 1)?, value_at(line, 2)))
     } else if fits(line, b"lent-take N") {
-        Some(Call::LentTake(number_at(line, 1)?))
+        Some(Call::LentTake(nth_number(line, 1)?))
     } else if fits(line, b"relieve N") {
         Some(Call::Relieve(up_to(line, 1, 32)?))
     } else if fits(line, b"drive N") {
-        Some(Call::Drive(number_at(line, 1)?))
+        Some(Call::Drive(number_at(line, 1)))
     } else if word(line, 0) == b"run".as_slice() {
         run_of(line)
     } else if word(line, 0) == b"burst".as_slice() {

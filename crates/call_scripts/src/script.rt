@@ -1,7 +1,21 @@
 // The text of a script: lines of words, with one space between two of them.
+ghost use Rattle.std.specs.Prelude.{◌≡◌, ◌≤◌, ◌==◌, length, drop, IfSome};
+ghost use Rattle.std.specs.List.{slice_split};
+
 use std::num::ParseIntError;
 use std::str;
 use std::str::FromStr;
+
+// The place of the next such byte from a place on, or the end of the text.
+pub fn next(text: &[u8], at: usize, byte: u8) -> usize
+    requires { at ≤ length text.now }
+    ensures { (at ≤ result) × (result ≤ length text.now) }
+{
+    text[at..]
+        .iter()
+        .position(|b| *b == byte)
+        .map_or(text.len(), |k| at + k)
+}
 
 // The line from a place on.
 pub fn rest(line: &[u8], at: usize) -> &[u8] {
@@ -23,13 +37,22 @@ pub fn number<T: FromStr<Err = ParseIntError>>(word: &[u8]) -> Option<T> {
 }
 
 // The n-th word as a number of a type.
-pub fn number_at<T: FromStr<Err = ParseIntError>>(line: &[u8], n: usize) -> Option<T> {
+pub(crate) fn nth_number<T: FromStr<Err = ParseIntError>>(line: &[u8], n: usize) -> Option<T> {
     number(word(line, n))
+}
+
+// The n-th word as a number, for a line that has one there.
+pub fn number_at(line: &[u8], n: usize) -> u64 {
+    nth_number(line, n).unwrap_or(0)
+}
+
+pub fn value_at(line: &[u8], n: usize) -> i32 {
+    nth_number(line, n).unwrap_or(0)
 }
 
 // The n-th word as a number up to a limit.
 pub(crate) fn up_to(line: &[u8], n: usize, most: usize) -> Option<usize> {
-    number_at(line, n).filter(|k| *k <= most)
+    nth_number(line, n).filter(|k| *k <= most)
 }
 
 // A word has a form: N is a number below 2^64, V a value, and each other word stands for itself.
@@ -57,18 +80,30 @@ pub fn fits(line: &[u8], form: &[u8]) -> bool {
     forms.next().is_none()
 }
 
+// How many words a line has after its first ones.
+fn words_after(line: &[u8], skipped: usize) -> usize
+    ensures { result ≡ length (drop skipped (slice_split (λ b. b == 32) line.now)) }
+{
+    line.split(|b| *b == b' ').skip(skipped).count()
+}
+
 // The numbers of a line after its first words, put at the front of a buffer; None where one is no number of the type, or where there are too many.
 pub fn numbers_of<'a, T: FromStr<Err = ParseIntError> + Copy>(
     line: &[u8],
     skipped: usize,
     numbers: &'a mut [T],
-) -> Option<&'a [T]> {
-    let mut n: usize = 0;
-    for word in line.split(|b| *b == b' ').skip(skipped) {
-        *numbers.get_mut(n)? = number(word)?;
-        n += 1;
+) -> Option<&'a [T]>
+    ensures words { IfSome result (λ r. length r.now ≡ length (drop skipped (slice_split (λ b. b == 32) line.now))) }
+    ensures room { IfSome result (λ r. length r.now ≤ length numbers.old) }
+{
+    let front = numbers.get_mut(..words_after(line, skipped))?;
+    for (place, word) in front
+        .iter_mut()
+        .zip(line.split(|b| *b == b' ').skip(skipped))
+    {
+        *place = number(word)?;
     }
-    numbers.get(..n)
+    Some(front)
 }
 
 // Whether so many words stand there at most, and each is a number of the type.
@@ -79,6 +114,6 @@ pub(crate) fn has_numbers<T: FromStr<Err = ParseIntError> + Drop>(
 ) -> bool {
     line.split(|b| *b == b' ')
         .skip(skipped)
-        .all(|word| number::<T>(word).is_some())
-        && line.split(|b| *b == b' ').skip(skipped).count() <= most
+        .enumerate()
+        .all(|(n, word)| n < most && number::<T>(word).is_some())
 }

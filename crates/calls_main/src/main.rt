@@ -8,12 +8,11 @@ mod edits;
 
 ghost use Rattle.std.specs.Prelude.{◌≡◌, length};
 
-use call_prints::Printed;
 use call_prints::changes::print_changes;
-use call_prints::shows::{print_hex, print_reading, print_written};
+use call_prints::shows::{print, print_hex, print_reading, print_written};
 use call_scripts::edits::Edit;
 use call_scripts::lines::{Call, Line, line_of};
-use call_scripts::script::rest;
+use call_scripts::script::{next, rest};
 use lane::Lane;
 use std::rt::Files;
 
@@ -43,74 +42,72 @@ fn start(rt: &impl Files, name: &[u8]) -> Desk {
     fresh(&file[..n])
 }
 
-fn read(rt: &(impl Files + Print), name: &[u8]) -> Printed {
+fn read(rt: &(impl Files + Print), name: &[u8]) {
     let mut file = [0u8; 4609];
     let n = files::load(rt, name, &mut file);
-    print!(rt; ":")?;
-    print_reading(rt, lane_reader::read(&file[..n]))
+    print(rt, ":");
+    print_reading(rt, lane_reader::read(&file[..n]));
 }
 
 // Each byte of the buffer is 99 before.
-fn write(rt: &impl Print, lane: &Lane, n: usize) -> Printed {
+fn write(rt: &impl Print, lane: &Lane, n: usize) {
     let mut buffer = [99u8; 4700];
     let Some(file) = buffer.get_mut(..n) else {
-        return Ok(());
+        return;
     };
-    print!(rt; ":")?;
-    print_written(rt, lane_writer::write(lane.network, file))?;
-    print_hex(rt, file)
+    print(rt, ":");
+    print_written(rt, lane_writer::write(lane.network, file));
+    print_hex(rt, file);
 }
 
 // ---- calls
-fn changes(rt: &impl Print, before: &Desk, after: &Desk) -> Printed {
-    print_changes(rt, &before.lane, &before.cells, &after.lane, &after.cells)
+fn changes(rt: &impl Print, before: &Desk, after: &Desk) {
+    print_changes(rt, &before.lane, &before.cells, &after.lane, &after.cells);
 }
 
 // A call, and what it changed.
-fn call(rt: &impl Print, desk: &mut Desk, call: Call, line: &[u8]) -> Printed {
+fn call(rt: &impl Print, desk: &mut Desk, call: Call, line: &[u8]) {
     let before = *desk;
-    print!(rt; ":")?;
+    print(rt, ":");
     if let Some(cells) = desk.cells.get_mut(..before.room) {
-        calls::called(rt, &mut desk.lane, cells, call, line)?;
+        calls::called(rt, &mut desk.lane, cells, call, line);
     }
-    changes(rt, &before, desk)
+    changes(rt, &before, desk);
 }
 
 // A pick of process 0 on a copy that is changed by hand.
-fn with(rt: &impl Print, mut desk: Desk, edit: Edit) -> Printed {
+fn with(rt: &impl Print, mut desk: Desk, edit: Edit) {
     edits::edit(&mut desk.lane, &mut desk.cells, edit);
-    call(rt, &mut desk, Call::Pick(0), b"")
+    call(rt, &mut desk, Call::Pick(0), b"");
 }
 
 // ---- the script
-fn step(rt: &(impl Files + Print), desk: &mut Desk, line: &[u8]) -> Printed {
+fn step(rt: &(impl Files + Print), desk: &mut Desk, line: &[u8]) {
     let Some(asked) = line_of(line) else {
-        return print!(rt; ": bad line");
+        return print(rt, ": bad line");
     };
     match asked {
         Line::Note => {}
         Line::Lane => *desk = start(rt, rest(line, 5)),
-        Line::Read => read(rt, rest(line, 5))?,
-        Line::Write(n) => write(rt, &desk.lane, n)?,
+        Line::Read => read(rt, rest(line, 5)),
+        Line::Write(n) => write(rt, &desk.lane, n),
         Line::Room(n) => desk.room = n,
-        Line::Show => changes(rt, &fresh(b""), desk)?,
-        Line::Calls(asks) => call(rt, desk, asks, line)?,
+        Line::Show => changes(rt, &fresh(b""), desk),
+        Line::Calls(asks) => call(rt, desk, asks, line),
         Line::Make(edit) => edits::edit(&mut desk.lane, &mut desk.cells, edit),
-        Line::With(edit) => with(rt, *desk, edit)?,
+        Line::With(edit) => with(rt, *desk, edit),
     }
-    Ok(())
 }
 
 // Each line as it stands, with what is printed after it.
-fn run(rt: &(impl Files + Print), text: &[u8]) -> Printed {
+fn run(rt: &(impl Files + Print), text: &[u8]) {
     let mut desk = fresh(b"");
     for piece in text.split_inclusive(|b| *b == b'\n') {
-        let line = piece.strip_suffix(b"\n").unwrap_or(piece);
-        rt.write_all(line)?;
-        step(rt, &mut desk, line)?;
-        print!(rt; "\n")?;
+        let line = &piece[..next(piece, 0, b'\n')];
+        let _ = rt.write_all(line);
+        step(rt, &mut desk, line);
+        print(rt, "\n");
     }
-    Ok(())
 }
 
 // Room for a script. Only its length is known of it, so that the check does not lay it out byte by byte.
@@ -120,9 +117,9 @@ fn space() -> [u8; 1048576]
     [0; 1048576]
 }
 
-// Where standard output fails nothing more is printed; the program ends as it always does.
+// What standard output does not take is lost, and the script goes on.
 fn main(rt: HostRuntime) {
     let mut text = space();
     let n = io::read_full(0, &mut text);
-    let _ = run(&rt, &text[..n]);
+    run(&rt, &text[..n]);
 }
