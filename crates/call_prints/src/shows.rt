@@ -76,7 +76,7 @@ pub fn print_bytes(rt: &impl Print, bytes: &[u8]) {
 }
 
 fn hex_digit(n: u8) -> u8 {
-    b"0123456789abcdef"[n as usize % 16]
+    if n < 10 { b'0' + n } else { b'a' + n % 16 - 10 }
 }
 
 // Every byte as two digits, of a buffer of at most 4,700, in one piece.
@@ -88,7 +88,7 @@ pub fn print_hex(rt: &impl Print, bytes: &[u8]) {
         return;
     };
     for (two, byte) in digits.iter_mut().zip(bytes) {
-        *two = [hex_digit(*byte / 16), hex_digit(*byte)];
+        *two = [hex_digit(*byte / 16), hex_digit(*byte % 16)];
     }
     let _ = rt.write_all(digits.as_flattened());
 }

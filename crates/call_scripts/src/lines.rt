@@ -1,6 +1,6 @@
 // What a line of a script asks for (docs/SCRIPTS.md): each number of it is within its limit. A line that the page does not have is None.
 use crate::edits::{Edit, edit_of};
-use crate::script::{fits, has_numbers, nth_number, number_at, rest, up_to, value_at, word};
+use crate::script::{fits, has_numbers, next, nth_number, number_at, rest, up_to, value_at, word};
 
 // A call, with its process or channel and its value, the size of its buffer, or its number of picks. The bytes of a run and the values of a burst stay in
 // the line.
@@ -34,7 +34,7 @@ pub enum Line {
 }
 
 fn run_of(line: &[u8]) -> Option<Call> {
-    if has_numbers::<u8>(line, 1, 256) {
+    if has_numbers(line, 1, 256, None, 255) {
         Some(Call::Run)
     } else {
         None
@@ -43,7 +43,7 @@ fn run_of(line: &[u8]) -> Option<Call> {
 
 fn burst_of(line: &[u8]) -> Option<Call> {
     let c = nth_number(line, 1)?;
-    if has_numbers::<i32>(line, 2, 512) {
+    if has_numbers(line, 2, 512, Some(2147483648), 2147483647) {
         Some(Call::Burst(c))
     } else {
         None
@@ -80,7 +80,8 @@ fn call_of(line: &[u8]) -> Option<Call> {
 
 // This is the first word of the line, and something stands after it and a space.
 fn begins(line: &[u8], name: &[u8]) -> bool {
-    word(line, 0) == name && name.len() + 1 < line.len()
+    let end = next(line, 0, b' ');
+    &line[..end] == name && name.len() + 1 < line.len()
 }
 
 // A line that is no note.
