@@ -1,7 +1,7 @@
 pub mod Turns
 pub mod Rule
+pub mod Picks
 pub mod Tests
-pub mod Series
 pub mod RoundLaws
 pub mod Reliefs
 pub mod Witness

@@ -4,7 +4,7 @@
 use mathlib.Core.Path.{◌≡◌, refl, sym, ap, ◌∙◌, subst}
 use mathlib.Core.Logic.{◌⊎◌, inl, inr, ⊎_elim}
 use mathlib.Core.Bool.{Bool, true, false, cond, not, ◌&&◌, true≢false}
-use mathlib.Core.List.{List, []}
+use mathlib.Core.List.{List, [], ◌∷◌}
 use Prim.Native.Nat.{ℕ, zero, suc, ◌+◌, ◌-◌, ◌*◌, ◌≤◌, ◌<◌}
 use native.Mathlib.Omega.{arith}
 use lib.Dec.{eqb}
@@ -26,10 +26,14 @@ use Rattle.drives.specs.declared.End.{End}
 use Rattle.drives.specs.Drive as drive
 use Rattle.drives.specs.Drive.{turns, round, by_relief, next_after, left_after, Drive, driven, rounds, drove, result, done}
 use Rattle.drives.specs.Parts.{next_of, gain_of, Ruled, end_by}
+use Rattle.drives.specs.Series.{round_of, idle, Series, series, pick_rounds}
 use Rattle.drives.proofs.Rule.{onward, round_more, left_is}
-use Rattle.drives.proofs.Series.{order, round_of, idle, Series, series, pick_rounds}
 
 -- ---- the picks of a round
+-- the picks of a round of all sixteen processes; of fewer, the first so many of them
+abbrev pub order : List ℕ
+order = 0 ∷ 1 ∷ 2 ∷ 3 ∷ 4 ∷ 5 ∷ 6 ∷ 7 ∷ 8 ∷ 9 ∷ 10 ∷ 11 ∷ 12 ∷ 13 ∷ 14 ∷ 15 ∷ []
+
 abbrev numbers : ℕ → ℕ → List ℕ
 numbers p n = values (λ (k : ℕ). k) p n
 

@@ -16,7 +16,7 @@ turns_more : (p n : ℕ) (r : Running) → p < n → turns p (n - p) r ≡ turns
 turns_more p n r h = let e : n - p ≡ suc (n - (p + 1)) = omega arith in rw (e, add-one)
 
 -- a pick that left w' and moved, or did not
-picks_is : (p m g : ℕ) (w w' : World) (b : Bool) → w' ≡ pick_in p w → b ≡ has_moved (step_for p w).outcome → picks p (running w m g) ≡ running w' (m + bool_byte b) g
+pub picks_is : (p m g : ℕ) (w w' : World) (b : Bool) → w' ≡ pick_in p w → b ≡ has_moved (step_for p w).outcome → picks p (running w m g) ≡ running w' (m + bool_byte b) g
 unfolding picks
 picks_is p m g w w' b e f = rw (e, f) (by (has_moved (step_for p w).outcome))
   where

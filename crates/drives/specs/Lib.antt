@@ -1,3 +1,4 @@
 pub mod Drive
 pub mod Parts
 pub mod Reliefs
+pub mod Series

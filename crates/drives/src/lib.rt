@@ -1,6 +1,8 @@
 // The driver: rounds of picks, and a relief after each round.
 #![tactic(auto)]
 
+pub mod series;
+
 ghost use Rattle.std.specs.Prelude.{◌≡◌, ℕ, List, ℤ, ◌*◌, ◌≤◌};
 ghost use Rattle.base.specs.Refusals.{number_of};
 ghost use Rattle.lane.specs.State.{world};

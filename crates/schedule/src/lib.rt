@@ -30,8 +30,9 @@ pub fn relieve_in(sound: &mut SoundLane) -> Result<Enlargement, Refusal>
 }
 
 // The same, where only whether it enlarged a channel is asked for. Where no process waits for room on a channel to a process, which costs less to see,
-// nothing is searched for. Public for the run, and for the rounds of a drive.
+// nothing is searched for. Public for the run, and for the rounds of a drive, whose loops are quicker with it apart.
 #[tactic(auto, using(relief::proofs::Unwanted::unwanted_relief))]
+#[inline(never)]
 pub fn ease_in(sound: &mut SoundLane) -> bool
     ensures answered { result ≡ has_grown (relieve_of sound.old.lane (replicate 16 0)).answer }
     ensures left { sound.new.lane ≡ (relieve_of sound.old.lane (replicate 16 0)).lane }

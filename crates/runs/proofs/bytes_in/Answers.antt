@@ -11,8 +11,8 @@ loop-byte-preserved-then-byte c =
     let l = c.loop-byte in
     let e = c.ease_in.ensures in (
       e.same_network ∙ l.invariant.0,
-      rw c.from-enlarged.ensures (let b = one_at_most c.ease_in.result in omega (arith, b, l.invariant.1)),
-      rw c.from-enlarged.ensures (relieved c.args.picks.now l.byte-index l.moved l.enlarged (world l.sound.lane l.cells) c.ease_in.new.sound.lane c.ease_in.result c.loop-byte-test.true c.if-byte.true e.answered e.left) ∙ l.invariant.2,
+      rw c.from.ensures (let b = one_at_most c.ease_in.result in omega (arith, b, l.invariant.1)),
+      rw c.from.ensures (relieved c.args.picks.now l.byte-index l.ran.moved l.ran.enlarged (world l.sound.lane l.cells) c.ease_in.new.sound.lane c.ease_in.result c.loop-byte-test.true c.if-byte.true e.answered e.left) ∙ l.invariant.2,
     )
 
 pub loop-byte-preserved : goal.loop-byte-preserved
@@ -20,6 +20,6 @@ loop-byte-preserved c =
     let l = c.loop-byte in
     let e = c.moves.ensures in (
       e.2 ∙ l.invariant.0,
-      rw c.from-moved.ensures (let b = one_at_most c.moves.result in omega (arith, b, l.invariant.1)),
-      rw c.from-moved.ensures (picked c.args.picks.now l.byte-index l.moved l.enlarged (world l.sound.lane l.cells) (world c.moves.new.sound.lane c.moves.new.cells) c.moves.result c.loop-byte-test.true c.if-byte.false e.0 e.1) ∙ l.invariant.2,
+      rw c.from-in-loop-byte.ensures (let b = one_at_most c.moves.result in omega (arith, b, l.invariant.1)),
+      rw c.from-in-loop-byte.ensures (picked c.args.picks.now l.byte-index l.ran.moved l.ran.enlarged (world l.sound.lane l.cells) (world c.moves.new.sound.lane c.moves.new.cells) c.moves.result c.loop-byte-test.true c.if-byte.false e.0 e.1) ∙ l.invariant.2,
     )

@@ -11,5 +11,5 @@ use Rattle.runs.proofs.bytes_in.Given as goal
 abbrev pub invariant-loop-byte : goal.invariant-loop-byte
 invariant-loop-byte l =
     (l.sound.lane.network ≡ l.fn.sound.lane.network)
-    × (l.moved + l.enlarged ≤ l.byte-index)
-    × (bytes_run (drop l.byte-index l.picks) (running (world l.sound.lane l.cells) l.moved l.enlarged) ≡ bytes_run l.picks (begun (world l.fn.sound.lane l.fn.cells)))
+    × (l.ran.moved + l.ran.enlarged ≤ l.byte-index)
+    × (bytes_run (drop l.byte-index l.picks) (running (world l.sound.lane l.cells) l.ran.moved l.ran.enlarged) ≡ bytes_run l.picks (begun (world l.fn.sound.lane l.fn.cells)))

@@ -1,17 +1,10 @@
 -- Rounds of picks with a relief after each but the last, as far as they go: up to the first that is idle, or to the last that there is room for. The
--- driver's own definition (`rounds` of specs/Drive.antt) does not cite them; `rounds_are` of RoundLaws.antt says that its rounds are these, and
+-- driver's own definition (`rounds` of specs/Drive.antt) does not cite them; `rounds_are` of proofs/RoundLaws.antt says that its rounds are these, and
 -- the rule after the last of them.
 -- Assumes nothing.
-use mathlib.Core.Bool.{Bool, cond, not, ◌&&◌}
-use mathlib.Core.List.{List, [], ◌∷◌}
-use Prim.Native.Nat.{ℕ, zero, suc}
-use lib.Dec.{eqb}
+use Rattle.std.specs.Prelude.{Bool, cond, not, ◌&&◌, List, ℕ, zero, suc, eqb}
 use Rattle.lane.specs.Pick.{pick_all, unpicked}
 use Rattle.schedule.specs.Running.{Running, running, relief_in, has_grown, relieves}
-
--- the picks of a round of all sixteen processes; of fewer, the first so many of them
-abbrev pub order : List ℕ
-order = 0 ∷ 1 ∷ 2 ∷ 3 ∷ 4 ∷ 5 ∷ 6 ∷ 7 ∷ 8 ∷ 9 ∷ 10 ∷ 11 ∷ 12 ∷ 13 ∷ 14 ∷ 15 ∷ []
 
 -- a round of the picks, its moves counted from 0
 abbrev pub round_of : List ℕ → Running → Running
