@@ -1,6 +1,6 @@
 -- The lines of a bench in stages: all pick bytes, one after the other, and then the processes.
 -- Assumes nothing.
-use mathlib.Core.Path.{◌≡◌, refl, sym, ap, subst, ◌∙◌}
+use mathlib.Core.Path.{◌≡◌, refl, sym, ap, ◌∙◌}
 use mathlib.Core.Bool.{Bool, true, false, cond}
 use mathlib.Core.List.{List, append-nil}
 use Prim.Native.Nat.{ℕ, ◌+◌, ◌≤◌, ◌<◌}
@@ -11,7 +11,6 @@ use lib.ListN.{length, get_or, drop, replicate, drop_of_length-le}
 use lib.Seq.{drop-cons}
 use Rattle.network.specs.declared.Network.{Network}
 use Rattle.network.specs.Rules.{passes}
-use Rattle.lane.specs.declared.Lane.{Lane}
 use Rattle.lane.specs.State.{World}
 use Rattle.lane.specs.Pick.{pick_in}
 use Rattle.lane.proofs.PickLaws.{pick_network}

@@ -7,7 +7,6 @@ use native.Mathlib.Omega.{arith}
 use borrow.Author.Tests.{eq-eqb, ne_eqb}
 use lib.Dec.{ltb}
 use lib.ListN.{get_or}
-use Rattle.network.specs.declared.Network.{Network}
 use Rattle.network.specs.Rules.{receiver_of, outside}
 use Rattle.outer_ends.specs.Outer.{Onward}
 use Rattle.lane.specs.State.{channel_of}
@@ -16,7 +15,7 @@ use Rattle.bench_rules.specs.Printed.{Printed, silent, then_do}
 use Rattle.bench_rules.specs.Emptying.{Outputs, takes_at, empties_at, empties_from, empties}
 use Rattle.bench_rules.specs.Holding.{Room, Done}
 use Rattle.bench_rules.proofs.Underway.{Underway, begun, room_for, more, turned, done}
-use Rattle.bench_rules.proofs.EmptyingLaws.{empties_next, empties_all, gives_at, idle, active, takes_kept}
+use Rattle.bench_rules.proofs.EmptyingLaws.{empties_next, empties_all, gives_at, idle, active}
 
 -- ---- those between channel c and the next to the outside are inside, and give nothing
 inside_gives : (c : ℕ) (o : Outputs) → (receiver_of o.world.lane.network c ≡ outside → ⊥) → empties_at c o ≡ silent o

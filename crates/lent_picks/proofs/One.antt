@@ -3,13 +3,12 @@
 use mathlib.Core.Path.{◌≡◌, refl, sym, ap, ◌∙◌}
 use mathlib.Core.Bool.{Bool, true, false}
 use mathlib.Core.List.{List}
-use Prim.Native.Nat.{ℕ, ◌+◌, ◌≤◌, ◌<◌}
+use Prim.Native.Nat.{ℕ, ◌≤◌, ◌<◌}
 use native.Mathlib.Decide.{dec_lt}
 use native.Mathlib.Omega.{arith}
 use lib.IntN.{ℤ}
 use Rattle.network.specs.declared.Instruction.{Instruction}
 use Rattle.network.specs.Rules.{count_of, receives, sends}
-use Rattle.network.proofs.Passed.{passed}
 use Rattle.process.specs.declared.Condition.{Condition}
 use Rattle.process.specs.declared.Condition.TheVariants.{Live, Stopped, Faulted}
 use Rattle.process.specs.declared.Outcome.{Outcome}
@@ -27,7 +26,7 @@ use Rattle.lane.proofs.SoundLaws.{Sound, sound_says, says_sound}
 use Rattle.lane.proofs.Shape.{Shaped}
 use Rattle.lane.proofs.Instructions.{stands_right_lem}
 use Rattle.lane.proofs.PickLaws.{pick_waits, pick_network, picked_sound}
-use Rattle.lane_parts.proofs.Next.{Next, next_of}
+use Rattle.lane_parts.proofs.Next.{next_of}
 use Rattle.register_steps.specs.declared.Did.{Did}
 use Rattle.lent_steps.specs.Steps.{finish, says, At, Turned, Ready}
 

@@ -1,6 +1,6 @@
 -- What an instruction did, as the code answers it, and what is left to do: with that the pick is whole.
 -- Assumes nothing.
-use Rattle.std.specs.Prelude.{Bool, true, false, ◌≡◌, List, ℕ, ◌+◌, ◌≤◌, ◌<◌, length, set, ℤ}
+use Rattle.std.specs.Prelude.{Bool, true, ◌≡◌, List, ℕ, ◌+◌, ◌≤◌, ◌<◌, length, set, ℤ}
 use Rattle.network.specs.declared.Instruction.{Instruction}
 use Rattle.network.specs.Code.{fields_right}
 use Rattle.process.specs.declared.Condition.{Condition}

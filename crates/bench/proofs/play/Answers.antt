@@ -1,10 +1,7 @@
 -- `bench::play` meets its contract: the tests are made in the order of the definition, and then the listing.
 -- Assumes nothing.
-use mathlib.Core.Path.{◌≡◌, sym, ap, ◌∙◌}
-use mathlib.Core.Bool.{false, not}
 use native.Mathlib.Omega.{arith}
 use Rattle.network.proofs.Passed.{passed}
-use Rattle.bench.specs.Bench.{input_wrong, picks_wrong}
 use Rattle.bench.proofs.play.Goals as goal
 
 -- a network that passes has at most 16 processes

@@ -1,13 +1,13 @@
 -- `bench_feeds::feed_all` meets its contract.
 -- Assumes nothing.
-use mathlib.Core.Path.{◌≡◌, refl, sym, ap, ◌∙◌}
+use mathlib.Core.Path.{refl, sym, ap, ◌∙◌}
 use Prim.Native.Nat.{◌<◌}
 use native.Mathlib.Omega.{arith}
-use lib.ListN.{length, set, length-set}
+use lib.ListN.{set, length-set}
 use Rattle.network.specs.declared.Network.{Network}
 use Rattle.lane.specs.State.{world}
 use Rattle.bench_rules.specs.Input.{left_at}
-use Rattle.bench_rules.specs.Feeding.{Inputs, inputs}
+use Rattle.bench_rules.specs.Feeding.{inputs}
 use Rattle.bench_feeds.proofs.Rising.{around_begins, around_on, feeds_idle, feeds_filled}
 use Rattle.bench_feeds.proofs.feed_all.Goals.{then-not-idle, else-not-idle}
 use Rattle.bench_feeds.proofs.feed_all.Goals as goal

@@ -1,6 +1,6 @@
 -- `bench_takes::take_all` meets its contract. The loop's invariant: the channels that are left, after the lines written, are all channels.
 -- Assumes nothing.
-use Rattle.std.proofs.Common.{◌≡◌, ◌-◌, length}
+use Rattle.std.proofs.Common.{◌-◌}
 use Rattle.lane.specs.State.{world}
 use Rattle.bench_rules.specs.Emptying.{outputs}
 use Rattle.bench_takes.proofs.Outputs.{Emptying}

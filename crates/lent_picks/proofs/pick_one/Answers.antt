@@ -1,10 +1,8 @@
 -- `lent_picks::pick_one` meets its contract: a process that has ended stays; what is left to do after an instruction makes it the pick.
 -- Assumes nothing.
 use native.Mathlib.Omega.{arith}
-use mathlib.Core.Path.{◌≡◌, ap, ◌∙◌}
-use Rattle.lane.specs.declared.Lane.{Lane}
 use Rattle.lane.proofs.Shape.{Shaped}
-use Rattle.lent_picks.proofs.One.{ended_stays, at_is, ready_is, low_of, position_after, sound_after, picked_after}
+use Rattle.lent_picks.proofs.One.{ended_stays, at_is, ready_is, low_of, position_after, sound_after}
 use Rattle.lent_picks.proofs.pick_one.Goals as goal
 
 pub returns-in_default : goal.returns-in_default

@@ -1,14 +1,14 @@
 -- `lent_steps::step` meets its contract: what each arm requires follows from the rule of its opcode, and what it did is the pick.
 -- Assumes nothing.
 use Rattle.std.proofs.Common.{rules}
-use mathlib.Core.Path.{◌≡◌, ◌∙◌}
+use mathlib.Core.Path.{◌≡◌}
 use Prim.Native.Nat.{◌+◌, ◌*◌, ◌≤◌}
 use native.Mathlib.Omega.{arith}
 use lib.IntN.{pos}
 use lib.ListN.{get_or}
 use Rattle.network.specs.Code.{fields_right}
 use Rattle.arithmetic.specs.Wrap.{sum_of, difference_of, product_of}
-use Rattle.arithmetic.specs.Quotient.{Quotient, value, told}
+use Rattle.arithmetic.specs.Quotient.{value, told}
 use Rattle.lent_steps.proofs.Cases.{on_registers, a_low, two, three, stops, beyond_faults, jumps, sets, copies, adds, subtracts, multiplies, divides, remains, jumps_zero, jumps_negative}
 use Rattle.lent_steps.proofs.step.Goals as goal
 

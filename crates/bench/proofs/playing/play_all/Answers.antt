@@ -2,7 +2,7 @@
 -- Assumes nothing.
 use mathlib.Core.Path.{ap}
 use Rattle.network.specs.declared.Network.{Network}
-use Rattle.bench.proofs.Stages.{none_played, room_for_byte, one_played, all_played}
+use Rattle.bench.proofs.Stages.{none_played, room_for_byte, one_played}
 use Rattle.bench.proofs.playing.play_all.Goals as goal
 
 pub loop-pick-init : goal.loop-pick-init

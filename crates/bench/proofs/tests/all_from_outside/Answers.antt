@@ -2,7 +2,7 @@
 -- Assumes nothing.
 use mathlib.Core.Path.{sym, ap, ◌∙◌}
 use borrow.Author.Tests.{lt-ltb, le-ltb, ne_eqb}
-use Rattle.base.specs.Tests.{Verdict, is_good, need}
+use Rattle.base.specs.Tests.{is_good, need}
 use Rattle.base.proofs.Tests.{stop}
 use Rattle.bench_rules.specs.Input.{records}
 use Rattle.bench.specs.Bench.{from_outside}

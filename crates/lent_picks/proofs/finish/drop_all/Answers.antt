@@ -2,7 +2,6 @@
 -- Assumes nothing.
 use mathlib.Core.Path.{◌≡◌, sym, ap, ◌∙◌}
 use Prim.Native.Nat.{◌≤◌}
-use native.Mathlib.Omega.{arith}
 use Rattle.lane.specs.declared.Lane.{Lane}
 use Rattle.lane.specs.State.{put_channels}
 use Rattle.lane.specs.Pick.{drop_from}
