@@ -1,7 +1,7 @@
 -- The arrays of a fresh lane (`fresh_of`, which `lane_sound::fresh` makes): zeros, the capacities of the file, and no channel closed.
 -- Assumes nothing.
 use mathlib.Core.Path.{◌≡◌, refl, ap, ◌∙◌}
-use mathlib.Core.Bool.{Bool, false}
+use mathlib.Core.Bool.{Bool, true, false}
 use mathlib.Core.List.{List, [], ◌∷◌}
 use Prim.Native.Nat.{ℕ, zero, suc}
 use native.Mathlib.Omega.{arith}
@@ -12,6 +12,7 @@ use Rattle.base.proofs.Lists.{table_is, same_at}
 use Rattle.network.specs.declared.Network.{Network}
 use Rattle.process.specs.Channels.{no_channel}
 use Rattle.lane.specs.State.{no_standing, fresh_channel, fresh_of}
+use Rattle.lane.specs.Sound.{sound_of}
 use Rattle.bench.proofs.Parts.{channel, standings_of, channels_of, lane_of, Parts, parts}
 
 -- ---- channels of lists of one length: how many, and what stands at a place
@@ -69,3 +70,8 @@ module _ (n : Network) where
     pub fresh_is : lane_of n 0 fresh_parts ≡ fresh_of n
     unfolding fresh_of
     fresh_is = rw (standings_fresh, channels_fresh)
+
+-- the count of accepted calls says nothing of soundness
+pub sound_counted : (n : Network) (t : Parts) (a b : ℕ) → sound_of (lane_of n a t) ≡ true → sound_of (lane_of n b t) ≡ true
+unfolding sound_of
+sound_counted n t a b e = e
