@@ -1,20 +1,19 @@
 // Stripping: which processes are left once every process that nobody left points to is taken away, again and again. They are the processes on
 // rings.
-ghost use Rattle.std.specs.Prelude.{◌≡◌, ◌≤◌};
+ghost use Rattle.std.specs.Prelude.{◌≡◌, ◌≤◌, replicate};
 ghost use Rattle.base.specs.Lists.{table};
 ghost use Rattle.rings.specs.Left.{pointers, left_after, left_of};
 ghost use Rattle.rings.specs.Arrays.{points_in};
 
-// How many processes point to each number that a byte can be, 255 for nobody among them: so no pointing has to be tested.
-fn count_pointers(points: &[u8; 16], count: usize) -> [u8; 256]
-    requires { count ≤ 16 }
-    ensures { result ≡ table 256 (pointers (points_in points.now count) count (left_after (points_in points.now count) count 0)) }
+// How many processes point to each number that a byte can be, 255 for nobody among them: so no pointing has to be tested. The numbers are lent: handed back,
+// they would be copied.
+fn count_pointers(points: &[u8; 16], count: usize, pointing: &mut [u8; 256])
+    requires { (count ≤ 16) × (pointing.old ≡ replicate 256 0) }
+    ensures { pointing.new ≡ table 256 (pointers (points_in points.now count) count (left_after (points_in points.now count) count 0)) }
 {
-    let mut pointing = [0u8; 256];
     for p in 0..count {
         pointing[usize::from(points[p])] += 1;
     }
-    pointing
 }
 
 // Takes away every process that nobody left points to, again and again: from how many processes point to each to how many of those left do. A process
@@ -43,7 +42,8 @@ pub fn left_of(points: &[u8; 16], count: usize) -> [bool; 16]
     requires { count ≤ 16 }
     ensures { result ≡ table 16 (left_of (points_in points.now count) count) }
 {
-    let mut pointing = count_pointers(points, count);
+    let mut pointing = [0; 256];
+    count_pointers(points, count, &mut pointing);
     strip(points, count, &mut pointing);
     let mut left = [false; 16];
     for p in 0..16 {

@@ -13,14 +13,14 @@ unfolding tally
 loop-p-init c =
     record {
       within = omega arith;
-      size = refl;
-      says = λ q l. same_at 256 q 0;
+      size = omega arith;
+      says = λ q l. rw c.requires.1 (same_at 256 q 0);
     }
 
 pub overflow_add-pointing : goal.overflow_add-pointing
 overflow_add-pointing c =
     let small : c.from.result < 256 = search rules in
-    omega (arith, c.requires, counted_high _ _ _ _ c.loop-p.invariant c.from.result small)
+    omega (arith, c.requires.0, counted_high _ _ _ _ c.loop-p.invariant c.from.result small)
 
 pub loop-p-preserved : goal.loop-p-preserved
 loop-p-preserved c =
