@@ -28,7 +28,7 @@ fn round_of(sound: &mut SoundLane, cells: &mut [i32; 8192], picks: &[u8]) -> u64
 }
 
 // Rounds of picks: one, and so many more at most, each after a relief, as long as the round before had a move or its relief enlarged. The relief after
-// the last round is the caller's.
+// the last round is the caller's. Public for a driver with a list of its own, which knows that each pick names a process.
 pub fn rounds_in(sound: &mut SoundLane, cells: &mut [i32; 8192], picks: &[u8], again: u64) -> Rounds
     requires { (k : ℕ) → k < length picks.now → get_or picks.now k 0 < sound.old.lane.network.processes }
     ensures few { result.enlarged + result.left ≤ again }

@@ -37,6 +37,7 @@ pub fn ended_at(lane: &Lane, e: u8) -> bool
 
 // The instruction at which process p stands. Public for the crates above, which know that the process is there.
 #[tactic(auto, using(crate::proofs::Next::place_of, crate::proofs::Next::stands))]
+#[inline(always)]
 pub fn instruction_of(sound: &SoundLane, p: usize) -> Instruction
     requires { p < sound.now.lane.network.processes }
     ensures { result ≡ instruction_for p sound.now.lane }

@@ -1,4 +1,4 @@
--- Feed and close at one channel of a sound lane: what is left of document 01's rules after the tests that the caller has made (15, 16, 8, 9). A take's rest is `taken`.
+-- Feed and close at one channel of a lane: what is left of document 01's rules after the tests that the caller has made (15, 16, 8, 9). A take's rest is `taken`.
 -- Assumes nothing.
 use Rattle.std.specs.Prelude.{ℕ, ℤ}
 use Rattle.lane.specs.State.{World}

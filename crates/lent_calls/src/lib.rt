@@ -13,7 +13,7 @@ use base::Refusal;
 use lane::{Lane, SoundLane};
 use lane_parts::{count, ended_at, slot};
 
-// ---- on any lane
+// ---- on any lane. Public for a caller that knows of the lane what is required and no more; those on a sound lane, below, are made of these.
 // A message from outside into channel c; one whose receiver has ended is taken and not stored.
 pub fn feed_in(lane: &mut Lane, cells: &mut [i32; 8192], c: usize, v: i32) -> Result<(), Refusal>
     requires low { c < 32 }

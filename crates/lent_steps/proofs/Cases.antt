@@ -21,12 +21,12 @@ use Rattle.process.specs.Want.{register_of, assigned, signed16, is_null, is_nega
 use Rattle.process.specs.Execute.{execute}
 use Rattle.process.proofs.Fields.{register_in, own_low, second, third, beyond}
 use Rattle.lane.specs.declared.Lane.{Lane}
-use Rattle.lane.specs.State.{world, process_of, ended_at, channel_of}
+use Rattle.lane.specs.State.{World, world, process_of, ended_at, channel_of}
 use Rattle.lane.specs.Pick.{channel_in}
 use Rattle.register_steps.specs.declared.Did.{Did}
 use Rattle.register_steps.specs.declared.Did.TheVariants.{On, To, WaitEmpty, WaitFull, Stop, Fault}
 use Rattle.register_steps.specs.Divides.{did_by, file_by}
-use Rattle.lent_steps.specs.Steps.{with_state, At, Turned, Means, Ready}
+use Rattle.lent_steps.specs.Steps.{with_state, in_lane, SameEnds, At, Turned, TurnedAnywhere, Means, Ready}
 use Rattle.lent_steps.proofs.Turns.{did_assign, did_on, did_send, did_jump, did_wait_empty, did_wait_full, did_stop, did_fault}
 
 -- ---- the fields of an instruction
@@ -180,16 +180,27 @@ module _ {l : Lane} {p : ℕ} {i : Instruction} (at : At l p i) (cells : List �
 -- ---- whoever the process is
 module _ {l : Lane} {p : ℕ} {i : Instruction} {r : Did} {cells : List ℤ} where
   -- registers alone
-  pub on_registers : {file : List ℤ} → (At l p i → Turned r p (world l cells) (world (with_state file l.channels l) cells)) → Means i r p (world l cells) (world (with_state file l.channels l) cells)
+  pub on_registers : {file : List ℤ} → TurnedAnywhere i r p (world l cells) (world (with_state file l.channels l) cells) → Means i r p (world l cells) (world (with_state file l.channels l) cells)
   on_registers t = record { turned = t; network = refl; stays = refl; accepted = refl; capacities = λ c. refl }
 
   -- a channel, whose capacity stays, and perhaps a cell
   pub on_channel :
       (c : ℕ) (k : Channel) {file : List ℤ} {hs : List Channel} {cells' : List ℤ} → c < length l.channels → hs ≡ set l.channels c k → k.capacity ≡ (channel_of l c).capacity
-      → (At l p i → Turned r p (world l cells) (world (with_state file hs l) cells')) → Means i r p (world l cells) (world (with_state file hs l) cells')
+      → TurnedAnywhere i r p (world l cells) (world (with_state file hs l) cells') → Means i r p (world l cells) (world (with_state file hs l) cells')
   on_channel c k low e same t =
       record { turned = t; network = refl; stays = refl; accepted = refl; capacities = λ d. rw e (go d (ℕ_discrete d c)) }
     where
       go : (d : ℕ) → Dec (d ≡ c) → (get_or (set l.channels c k) d no_channel).capacity ≡ (channel_of l d).capacity
       go d (yes q) = rw q (ap (λ (h : Channel). h.capacity) (get_or-set_same l.channels c k no_channel low) ∙ same)
       go d (no q) = ap (λ (h : Channel). h.capacity) (get_or-set_other l.channels c d k no_channel q)
+
+-- the receiver of channel c has ended in each of these lanes, or in none
+pub same_receiver : {l m : Lane} → SameEnds m l → (c : ℕ) → {gone : Bool} → gone ≡ ended_at l (receiver_of l.network c) → gone ≡ ended_at m (receiver_of m.network c)
+same_receiver {l} {m} k c e = rw k.receivers (e ∙ sym (k.ended (receiver_of l.network c)))
+
+-- the lent lane is one of them
+pub turned_here : {i : Instruction} {r : Did} {p : ℕ} {w w' : World} → Means i r p w w' → At w.lane p i → Turned r p w w'
+turned_here {i} {r} {p} {w} {w'} k at =
+    let e : in_lane w.lane w' ≡ w' = rw (← k.network, ← k.stays, ← k.accepted) refl in
+    let t = k.turned w.lane (record { receivers = refl; ended = λ q. refl }) at in
+    rw e at t

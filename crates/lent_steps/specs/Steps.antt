@@ -8,7 +8,7 @@ use Rattle.process.specs.declared.Condition.TheVariants.{Live, Stopped, Faulted}
 use Rattle.process.specs.declared.Channel.{Channel}
 use Rattle.process.specs.Want.{counted}
 use Rattle.lane.specs.declared.Lane.{Lane}
-use Rattle.lane.specs.State.{World, world, standing_of, channel_of, put_channels}
+use Rattle.lane.specs.State.{World, world, standing_of, ended_at, channel_of, put_channels}
 use Rattle.lane.specs.Pick.{channel_in, drop_from, instruction_for, step_for, pick_in}
 use Rattle.register_steps.specs.declared.Did.{Did}
 use Rattle.register_steps.specs.declared.Did.TheVariants.{On, To, WaitEmpty, WaitFull, Stop, Fault}
@@ -49,9 +49,18 @@ says Stop c = moved
 says Fault c = moved
 
 -- ---- an instruction
--- the lane l with these registers and channels
+-- the lane l with these registers and these channels
 abbrev pub with_state : List ℤ → List Channel → Lane → Lane
 with_state file hs l = record { network = l.network; registers = file; processes = l.processes; channels = hs; accepted = l.accepted }
+
+-- the lane l with the registers and channels of w, and the cells of w beside it
+abbrev pub in_lane : Lane → World → World
+in_lane l w = world (with_state w.lane.registers w.lane.channels l) w.cells
+
+-- l and m have the same receivers, and the same processes have ended in both
+pub record SameEnds (l m : Lane) : Type 0 where
+  pub receivers : l.network.receiver ≡ m.network.receiver
+  pub ended : (e : ℕ) → ended_at l e ≡ ended_at m e
 
 -- process p is live in l and stands at instruction i
 pub record At (l : Lane) (p : ℕ) (i : Instruction) : Type 0 where
@@ -67,10 +76,14 @@ pub record Turned (r : Did) (p : ℕ) (w w' : World) : Type 0 where
   pub stays : w'.lane.processes ≡ w.lane.processes
   pub told : answer_to (step_for p w).outcome (channel_in (instruction_for p w.lane)) ≡ says r (channel_in (instruction_for p w.lane))
 
--- instruction i for process p: it did r, and left w'. Where p is live and stands at it, that is the pick; whoever p is, nothing is left of w but
--- registers, what channels hold, and cells
+-- in every lane with the registers, channels, receivers and ended processes of w where p is live and stands at i, that is the pick
+abbrev pub TurnedAnywhere : Instruction → Did → ℕ → World → World → Type 0
+TurnedAnywhere i r p w w' = (l : Lane) → SameEnds l w.lane → At (in_lane l w).lane p i → Turned r p (in_lane l w) (in_lane l w')
+
+-- instruction i for process p: it did r, and left w'. Wherever p stands at it, that is the pick; whoever p is, w' is w but for registers, what
+-- channels hold, and cells
 pub record Means (i : Instruction) (r : Did) (p : ℕ) (w w' : World) : Type 0 where
-  pub turned : At w.lane p i → Turned r p w w'
+  pub turned : TurnedAnywhere i r p w w'
   pub network : w'.lane.network ≡ w.lane.network
   pub stays : w'.lane.processes ≡ w.lane.processes
   pub accepted : w'.lane.accepted ≡ w.lane.accepted

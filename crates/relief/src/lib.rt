@@ -9,6 +9,7 @@ ghost use Rattle.relief.specs.Relief.{Enlargeable, told, relief, found_in, grown
 use base::Refusal;
 use lane::{Answered, Lane, SoundLane};
 use rings::{Ring, Unrelieved};
+use waits::Waits;
 
 // A ring was found and its channel enlarged: the ring's length, whose processes stand in the lent buffer, and the channel.
 #[derive(Clone, Copy, PartialEq, Eq)]
@@ -22,7 +23,8 @@ fn ring_in(sound: &SoundLane) -> Result<Ring, Unrelieved>
     ensures found { found_of result ≡ found_in sound.now.lane }
     ensures settles { (buffer : List ℕ) → relieve_of sound.now.lane buffer ≡ settled (found_of result) sound.now.lane buffer }
 {
-    let waits = waits::waits_in(sound);
+    let mut waits = Waits::default();
+    waits::waits_in(sound, &mut waits);
     rings::search(
         &waits.points,
         &waits.full,

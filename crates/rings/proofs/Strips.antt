@@ -4,21 +4,23 @@
 use mathlib.Core.Path.{◌≡◌, refl, sym, ap, ◌∙◌}
 use mathlib.Core.Bool.{Bool, true, false, cond, not, ◌&&◌, true≢false, false≢true, and-false}
 use mathlib.Core.List.{List}
-use Prim.Native.Nat.{ℕ, suc, ◌+◌, ◌-◌, ◌≤◌, ◌<◌}
+use mathlib.Core.Logic.{◌↔◌}
+use Prim.Native.Nat.{ℕ, zero, suc, ◌+◌, ◌-◌, ◌≤◌, ◌<◌}
 use native.Mathlib.Decide.{ℕ_discrete}
+use native.Mathlib.Numerals.{add-one}
 use native.Mathlib.Omega.{arith}
-use borrow.Author.Tests.{lt-ltb, eq-eqb, ne_eqb}
+use borrow.Author.Tests.{lt-ltb, eq-eqb, ne_eqb, eqb-false}
 use lib.Dec.{eqb, ltb}
-use lib.ListN.{length, get_or, set, length-set}
-use lib.Seq.{get_or-set_same, get_or-set_other}
+use lib.ListN.{length, get_or, set, replicate, length-set}
+use lib.Seq.{ext_get_or, get_or-set_same, get_or-set_other}
 use Rattle.base.specs.Lists.{table}
 use Rattle.base.proofs.Conjunction.{true_both, iff}
-use Rattle.base.proofs.Lists.{length_values, table_at, table_is}
+use Rattle.base.proofs.Lists.{length_values, table_at, table_is, same_at}
 use Rattle.rings.specs.Rings.{OnRing}
 use Rattle.rings.specs.Left.{tally, pointers, left_after, left_of}
 use Rattle.rings.proofs.Pointings.{Stays}
 use Rattle.rings.proofs.Tally.{tally_yes, tally_no, tally_high, tally_same, tally_drop}
-use Rattle.rings.proofs.Stripping.{ring_pointed, left_ring, left_exactly}
+use Rattle.rings.proofs.Stripping.{ring_pointed, left_ring, left_exactly, left_pointed}
 
 -- ---- counting: the pointers of the first n processes
 pub record Counted (f : ℕ → ℕ) (P : ℕ) (numbers : List ℕ) (n : ℕ) : Type 0 where
@@ -266,3 +268,37 @@ module _ (f : ℕ → ℕ) (P : ℕ) (small : P ≤ 16) (stays : Stays f P) wher
       agree p l = iff _ _
           (λ y. (left_exactly f P stays p).1 (left_ring f P stays left (λ q m v z. s.kept q (omega arith) v (s.has.counted q (omega arith) ∙ z)) p l y))
           (λ y. s.has.rings p ((left_exactly f P stays p).0 y))
+
+  -- ---- where each of sixteen is pointed to nothing is stripped, and all are left
+  module _ (numbers : List ℕ) (counted : numbers ≡ table 256 (pointers f P (left_after f P 0))) (some : (p : ℕ) → p < 16 → 1 ≤ get_or numbers p 0) where
+    none_goes : (k : ℕ) → k ≤ P → Stripping f P numbers k
+    none_goes zero h = strip_start numbers counted
+    none_goes (suc k) h = rw (← add-one k) (strip_past numbers k (omega arith) (none_goes k (omega arith)) (λ z. omega (arith, some k (omega (arith, small)), z)))
+
+    pub all_left : replicate 16 true ≡ table 16 (left_of f P)
+    all_left =
+        let e = strip_end numbers P (none_goes P (omega arith)) (omega arith) in
+        table_is (left_of f P) 16 true (replicate 16 true) refl
+        (λ p h.
+        same_at 16 p true
+        ∙ ap not (sym (ne_eqb (get_or numbers p 0) 0 (λ z. omega (arith, some p h, z))))
+        ∙ ap (λ (ns : List ℕ). not (eqb (get_or ns p 0) 0)) e
+        ∙ ap (λ (m : ℕ). not (eqb m 0)) (table_at (pointers f P (left_of f P)) 256 p 0 (omega arith))
+        ∙ sym (left_pointed f P stays p))
+
+-- ---- of sixteen numbers none is zero
+pub none_alone : (numbers : List ℕ) (alone : List Bool) → length alone ≡ 16 → ((p : ℕ) → p < 16 → get_or alone p false ≡ eqb (get_or numbers p 0) 0)
+    → (alone ≡ replicate 16 false) ↔ ((p : ℕ) → p < 16 → 1 ≤ get_or numbers p 0)
+none_alone numbers alone long looked = (to, from)
+  where
+    to : alone ≡ replicate 16 false → (p : ℕ) → p < 16 → 1 ≤ get_or numbers p 0
+    to e p h =
+        let z = eqb-false (get_or numbers p 0) 0 (sym (looked p h) ∙ ap (λ (l : List Bool). get_or l p false) e ∙ same_at 16 p false) in
+        omega (arith, z)
+
+    from : ((p : ℕ) → p < 16 → 1 ≤ get_or numbers p 0) → alone ≡ replicate 16 false
+    from g =
+        ext_get_or false alone (replicate 16 false) long
+        (λ p h.
+        let m : p < 16 = omega (arith, long) in
+        looked p m ∙ ne_eqb (get_or numbers p 0) 0 (λ z. omega (arith, g p m, z)) ∙ sym (same_at 16 p false))

@@ -1,6 +1,6 @@
 // Stripping: which processes are left once every process that nobody left points to is taken away, again and again. They are the processes on
 // rings.
-ghost use Rattle.std.specs.Prelude.{◌≡◌, ◌≤◌, replicate};
+ghost use Rattle.std.specs.Prelude.{◌≡◌, ◌≤◌, ◌<◌, ◌↔◌, IsTrue, ℕ, get_or, replicate};
 ghost use Rattle.base.specs.Lists.{table};
 ghost use Rattle.rings.specs.Left.{pointers, left_after, left_of};
 ghost use Rattle.rings.specs.Arrays.{points_in};
@@ -37,13 +37,27 @@ fn strip(points: &[u8; 16], count: usize, pointing: &mut [u8; 256])
     }
 }
 
-// Which processes are left: those that one left points to.
+// Each of sixteen is pointed to. All are looked at, and what that leaves is compared at once.
+fn all_pointed(pointing: &[u8; 256]) -> bool
+    ensures { IsTrue result ↔ ((p : ℕ) → p < 16 → 1 ≤ get_or pointing.now p 0) }
+{
+    let mut alone = [false; 16];
+    for p in 0..16 {
+        alone[p] = pointing[p] == 0;
+    }
+    alone == [false; 16]
+}
+
+// Which processes are left: those that one left points to. Where each of sixteen is pointed to, nothing is stripped.
 pub fn left_of(points: &[u8; 16], count: usize) -> [bool; 16]
     requires { count ≤ 16 }
     ensures { result ≡ table 16 (left_of (points_in points.now count) count) }
 {
     let mut pointing = [0; 256];
     count_pointers(points, count, &mut pointing);
+    if all_pointed(&pointing) {
+        return [true; 16];
+    }
     strip(points, count, &mut pointing);
     let mut left = [false; 16];
     for p in 0..16 {

@@ -1,10 +1,11 @@
 // A run: bytes one after the other, each a pick or, 255, a relief.
 #![tactic(auto)]
 
-ghost use Rattle.std.specs.Prelude.{◌≡◌, ℕ, ◌<◌, length, get_or};
+ghost use Rattle.std.specs.Prelude.{◌≡◌, ℕ, ◌<◌, length, get_or, replicate};
 ghost use Rattle.base.specs.Tests.{first_bad, is_good};
 ghost use Rattle.lane.specs.State.{world};
-ghost use Rattle.schedule.specs.Running.{running, begun};
+ghost use Rattle.relief.specs.Relief.{relieve_of};
+ghost use Rattle.schedule.specs.Running.{running, begun, has_grown};
 ghost use Rattle.runs.specs.Run.{bytes_run, told, result as outcome, names, named, run_of};
 
 use base::Refusal;
@@ -37,6 +38,17 @@ pub fn all_named(picks: &[u8], processes: u8) -> bool
     wrong == 0
 }
 
+// The relief of a byte 255: whether it enlarged a channel. Few bytes of a run are reliefs; marked so, it leaves the loop of the picks in one piece.
+#[cold]
+#[inline(never)]
+fn eased(sound: &mut SoundLane) -> bool
+    ensures answered { result ≡ has_grown (relieve_of sound.old.lane (replicate 16 0)).answer }
+    ensures left { sound.new.lane ≡ (relieve_of sound.old.lane (replicate 16 0)).lane }
+    ensures same_network { sound.new.lane.network ≡ sound.old.lane.network }
+{
+    schedule::ease_in(sound)
+}
+
 // The bytes in turn, each a pick of a process that is there, or a relief. A function by itself: laid into its caller, the loop takes up to a third longer.
 #[inline(never)]
 fn bytes_in(sound: &mut SoundLane, cells: &mut [i32; 8192], picks: &[u8]) -> Ran
@@ -49,7 +61,7 @@ fn bytes_in(sound: &mut SoundLane, cells: &mut [i32; 8192], picks: &[u8]) -> Ran
     };
     for &byte in picks {
         if byte == 255 {
-            ran.enlarged += u64::from(schedule::ease_in(sound));
+            ran.enlarged += u64::from(eased(sound));
             continue;
         }
         ran.moved += u64::from(lent_picks::moves(sound, cells, byte as usize));

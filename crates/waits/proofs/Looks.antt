@@ -1,9 +1,11 @@
 -- What a look at a process of a sound lane answers, by what the code reads: the process's condition, its instruction and the record of its channel; the
 -- numbers of its wait; whether one of the processes waits for room on a channel to a process.
 -- Assumes nothing.
-use Rattle.std.proofs.Common.{◌≡◌, refl, sym, ap, ◌∙◌, Bool, true, false, not, ℕ, suc, ◌+◌, ◌-◌, ◌≤◌, ◌<◌, List, length, get_or, set, arith, add-one}
-use Rattle.std.proofs.lemmas.List.Edits.{fill_by_more}
+use Rattle.std.proofs.Common.{◌≡◌, refl, sym, ap, ◌∙◌, Bool, true, false, not, ℕ, suc, ◌+◌, ◌-◌, ◌≤◌, ◌<◌, List, get_or, replicate, arith, add-one}
+use Rattle.std.proofs.lemmas.List.{get_or-replicate}
+use native.Mathlib.Decide.{ℕ_discrete}
 use borrow.Author.Tests.{eq-eqb, ne_eqb}
+use Rattle.base.proofs.Lists.{Filled}
 use Rattle.network.specs.declared.Instruction.{Instruction}
 use Rattle.network.specs.Rules.{sender_of, receiver_of}
 use Rattle.process.specs.declared.Channel.{Channel}
@@ -13,6 +15,7 @@ use Rattle.lane.specs.Sound.{sound_of}
 use Rattle.lane.specs.Pick.{channel_in, instruction_for}
 use Rattle.lane.proofs.SoundLaws.{sound_says}
 use Rattle.waits.specs.Waits.{Wait, free, for_message, for_room, wait_of, other_end, room_in, channel_waited, pointing, full_wait, waits_at}
+use Rattle.waits.specs.declared.Wait as seen
 use Rattle.waits.specs.declared.Wait.TheVariants.{Free, Empty, Full}
 use Rattle.waits.specs.Parts.{points_of, full_of, channel_of, wait_for, wait_by, wants_room, some_wants_room}
 use Rattle.waits.proofs.WaitLaws.{waiting_of, wait_is, pointing_is, full_is, channel_is, unsent_full}
@@ -106,10 +109,29 @@ channel_at l p = channel_for l (wait_of l p) ∙ sym (channel_is l p)
 pub no_send : (l : Lane) (p : ℕ) (i : Instruction) → i ≡ instruction_for p l → (i.op ≡ 12 → ⊥) → false ≡ wants_room l p
 no_send l p i e n = rw (unsent_full l p (λ q. n (ap (λ (x : Instruction). x.op) e ∙ q)))
 
--- the waits of one process more, in an array
-pub one_more : (f : ℕ → ℕ) (xs : List ℕ) (p v : ℕ) → p < length xs → v ≡ f p → ((k : ℕ) → k < p → get_or xs k 0 ≡ f k)
-    → (k : ℕ) → k < p + 1 → get_or (set xs p v) k 0 ≡ f k
-one_more f xs p v h e before k m = rw e (fill_by_more f xs p 0 h before k m)
+-- ---- an array that is filled from its front, where the next element stands there already
+pub filled_past : (f : ℕ → ℕ) (old : List ℕ) (p : ℕ) (a : List ℕ) → get_or old p 0 ≡ f p → Filled f 0 old p a → Filled f 0 old (p + 1) a
+filled_past f old p a e s = record { long = s.long; done = λ k h. go k h (ℕ_discrete k p); kept = λ k h. s.kept k (omega arith) }
+  where
+    go : (k : ℕ) → k < p + 1 → Dec (k ≡ p) → get_or a k 0 ≡ f k
+    go k h (yes q) = rw q (s.kept p (omega arith) ∙ e)
+    go k h (no q) = s.done k (omega arith)
+
+-- a process without a full wait, and one that is free, which points to nobody and waits on no channel either
+pub unfilled : (w : seen.Wait) → ((points c capacity : ℕ) → w ≡ Full points c capacity → ⊥) → full_of w ≡ 0
+unfilled Free n = refl
+unfilled (Empty points c) n = refl
+unfilled (Full points c capacity) n = absurd (n points c capacity refl)
+
+module _ (l : Lane) (p : ℕ) where
+  pub no_full : p < 16 → full_of (wait_by l p) ≡ 0 → get_or (replicate 16 0) p 0 ≡ full_wait l p
+  no_full b e = get_or-replicate 16 p 0 0 b ∙ sym e ∙ full_at l p
+
+  pub free_points : wait_by l p ≡ Free → p < 16 → p < l.network.processes → get_or (replicate 16 255) p 0 ≡ pointing l p
+  free_points e b h = get_or-replicate 16 p 255 0 b ∙ sym (ap points_of e) ∙ points_at l p h
+
+  pub free_channel : wait_by l p ≡ Free → p < 16 → get_or (replicate 16 0) p 0 ≡ waits_at l p
+  free_channel e b = get_or-replicate 16 p 0 0 b ∙ sym (ap channel_of e) ∙ channel_at l p
 
 -- ---- whether one of the processes from p on waits for room
 left_more : (used p : ℕ) → p < used → used - p ≡ suc (used - (p + 1))

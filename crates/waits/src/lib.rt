@@ -58,8 +58,8 @@ impl Wait {
 }
 
 // The waits of the processes, as the search for a ring takes them: where each points, 255 for nowhere; the capacity of its full wait, 0 for none; its
-// channel.
-#[derive(Clone, Copy)]
+// channel. The default is a desk to lend to `waits_in`, which says nothing yet.
+#[derive(Clone, Copy, Default)]
 pub struct Waits {
     pub points: [u8; 16],
     pub full: [u16; 16],
@@ -95,22 +95,26 @@ pub fn wait_at(sound: &SoundLane, p: usize) -> Wait
     }
 }
 
-// The waits of all processes. Public for relief.
-pub fn waits_in(sound: &SoundLane) -> Waits
-    ensures { AreWaits sound.now.lane result.points result.full result.channel }
+// The waits of all processes, into a desk that is lent, whatever stood in it: handed back it would be copied. Public for relief.
+pub fn waits_in(sound: &SoundLane, waits: &mut Waits)
+    ensures { AreWaits sound.now.lane waits.new.points waits.new.full waits.new.channel }
 {
-    let mut waits = Waits {
-        points: [255; 16],
-        full: [0; 16],
-        channel: [0; 16],
-    };
+    waits.points = [255; 16];
+    waits.full = [0; 16];
+    waits.channel = [0; 16];
     for p in 0..sound.lane.network.processes {
         let wait = wait_at(sound, p);
+        // What stands there already is that of a process that is free.
+        if let Wait::Free = wait {
+            continue;
+        }
         waits.points[p] = wait.points();
-        waits.full[p] = wait.full();
         waits.channel[p] = wait.channel();
+        let Wait::Full { capacity, .. } = wait else {
+            continue;
+        };
+        waits.full[p] = capacity;
     }
-    waits
 }
 
 // Whether process p waits for room on a channel to a process. Only one that stands at a send can, so its opcode is looked at first.

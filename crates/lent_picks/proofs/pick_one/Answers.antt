@@ -3,6 +3,7 @@
 use native.Mathlib.Omega.{arith}
 use Rattle.lane.proofs.Shape.{Shaped}
 use Rattle.lent_picks.proofs.One.{ended_stays, at_is, ready_is, low_of, position_after, sound_after}
+use Rattle.lent_steps.proofs.Cases.{turned_here}
 use Rattle.lent_picks.proofs.pick_one.Goals as goal
 
 pub returns-in_default : goal.returns-in_default
@@ -28,6 +29,6 @@ finish-requires c =
 pub invariant_of-sound : goal.invariant_of-sound
 invariant_of-sound c =
     let shaped : Shaped c.args.sound.now.lane = record { registers = omega arith; processes = omega arith; channels = omega arith } in
-    let turned = c.step-did.ensures.turned (at_is _ c.args.sound.now.sound c.args.p c.requires shaped c.in-Live.is c.instruction_of-i.ensures) in
+    let turned = turned_here c.step-did.ensures (at_is _ c.args.sound.now.sound c.args.p c.requires shaped c.in-Live.is c.instruction_of-i.ensures) in
     let after = sound_after _ c.args.sound.now.sound c.args.p c.requires shaped c.args.cells.now turned (c.finish.ensures.0 c.step-did.new.cells) in
     record { sound = after.0; few_processes = rw after.1 c.args.sound.now.few_processes; few_channels = rw after.1 c.args.sound.now.few_channels }

@@ -11,5 +11,5 @@ pub returns : goal.returns
 returns c =
     let lane = c.args.sound.now.lane in
     let s : sound_of lane ≡ true = search rules in
-    let e = sym (found_at lane (sound_says lane s) refl c.waits_in-waits.ensures c.search.ensures) in
+    let e = sym (found_at lane (sound_says lane s) refl c.waits_in.ensures c.search.ensures) in
     record { found = e; settles = settles lane _ s e }

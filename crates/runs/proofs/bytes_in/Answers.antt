@@ -9,10 +9,10 @@ use Rattle.runs.proofs.bytes_in.Goals as goal
 pub loop-byte-preserved-then-byte : goal.loop-byte-preserved-then-byte
 loop-byte-preserved-then-byte c =
     let l = c.loop-byte in
-    let e = c.ease_in.ensures in (
+    let e = c.eased.ensures in (
       e.same_network ∙ l.invariant.0,
-      rw c.from.ensures (let b = one_at_most c.ease_in.result in omega (arith, b, l.invariant.1)),
-      rw c.from.ensures (relieved c.args.picks.now l.byte-index l.ran.moved l.ran.enlarged (world l.sound.lane l.cells) c.ease_in.new.sound.lane c.ease_in.result c.loop-byte-test.true c.if-byte.true e.answered e.left) ∙ l.invariant.2,
+      rw c.from.ensures (let b = one_at_most c.eased.result in omega (arith, b, l.invariant.1)),
+      rw c.from.ensures (relieved c.args.picks.now l.byte-index l.ran.moved l.ran.enlarged (world l.sound.lane l.cells) c.eased.new.sound.lane c.eased.result c.loop-byte-test.true c.if-byte.true e.answered e.left) ∙ l.invariant.2,
     )
 
 pub loop-byte-preserved : goal.loop-byte-preserved

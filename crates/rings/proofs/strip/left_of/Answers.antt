@@ -10,6 +10,7 @@ use Rattle.rings.specs.Left.{pointers, left_of}
 use Rattle.rings.specs.Arrays.{points_in}
 use Rattle.rings.proofs.Pointings.{points_stay}
 use Rattle.rings.proofs.Stripping.{left_pointed}
+use Rattle.rings.proofs.Strips.{all_left}
 use Rattle.rings.proofs.strip.left_of.Goals as goal
 
 pub loop-p-init : goal.loop-p-init
@@ -17,6 +18,11 @@ loop-p-init c = filled_none _ _ _
 
 pub loop-p-preserved : goal.loop-p-preserved
 loop-p-preserved c = filled_more _ _ _ _ _ _ (omega (arith, c.loop-p.invariant.long)) refl c.loop-p.invariant
+
+pub returns-then-all_pointed : goal.returns-then-all_pointed
+returns-then-all_pointed c =
+    all_left (points_in c.args.points.now c.args.count) c.args.count c.requires (points_stay _ _ (omega (arith, c.requires))) _ c.count_pointers.ensures
+    (c.all_pointed.ensures.0 c.if-all_pointed.true)
 
 pub returns : goal.returns
 returns c =
